@@ -1,0 +1,5 @@
+pub mod Differences
+pub mod Tests
+pub mod Machine
+pub mod Floor
+pub mod Extend
