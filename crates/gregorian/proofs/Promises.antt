@@ -1,0 +1,78 @@
+-- Proofs of what specs/Promises.antt states.
+use mathlib.Core.Path.{_≡_, refl, sym, ap, _∙_}
+use mathlib.Core.Bool.{Bool, true, false}
+use Prim.Native.Nat.{ℕ, _+_, _-_}
+use native.Mathlib.Omega.{arith}
+use lib.IntN.{ℤ, pos, subℕ, _+ℤ_}
+use Rattle.signed.proofs.Differences.{minus, plus, lower, raised, raised-low, raised-high, raised-back, low, high}
+use Rattle.signed.proofs.Tests.{le-leZ}
+use Rattle.gregorian.specs.Gregorian.{leap, monthLength, daysOfMonths, yearDays, yearAt, yearsTo, daysTo, dayNumber}
+use Rattle.gregorian.specs.Dates.{dateIn, dateAt}
+use Rattle.gregorian.specs.Promises.{DayZero, NextDay, NextMonth, NextYear, YearLengths, DayOfItsDate, DateOfItsDay}
+use Rattle.gregorian.proofs.YearSums.{closed-is, years-step, all-years, row-days}
+use Rattle.gregorian.proofs.MonthSums.{no-months, months-step}
+use Rattle.gregorian.proofs.Days.{year-back, epoch, number, days-in-year, first-day, last-day, day-low, day-high}
+use Rattle.gregorian.proofs.Trip.{day-trip, date-trip, its-days-low, its-days-high}
+
+pub day-zero : DayZero
+day-zero = number (pos 1970) 1 1 ∙ ap (λ n. subℕ n 4371953) epoch
+
+-- so many days more to a date are so many more in its number
+later : (y y′ : ℤ) (m m′ d d′ k : ℕ) → daysTo y′ m′ d′ ≡ daysTo y m d + k → dayNumber y′ m′ d′ ≡ dayNumber y m d +ℤ pos k
+later y y′ m m′ d d′ k e =
+    number y′ m′ d′ ∙ ap (λ n. subℕ n 4371953) e ∙ sym (plus (daysTo y m d) 4371953 k) ∙ ap (λ z. z +ℤ pos k) (sym (number y m d))
+
+pub next-day : NextDay
+unfolding daysTo
+next-day y m d h = later y y m m d (d + 1) 1 (omega arith)
+
+pub next-month : NextMonth
+unfolding daysTo
+next-month y m h =
+    let e : m + 1 - 1 ≡ m - 1 + 1 = omega arith in
+    later y y m (m + 1) 1 1 (monthLength y m) (omega (arith, ap (daysOfMonths (leap y)) e, months-step (leap y) (m - 1)))
+
+-- a year's last day is 364 or 365 days after its first
+december : (b : Bool) → daysOfMonths b 11 + 30 + 1 ≡ daysOfMonths b 12
+unfolding daysOfMonths
+december true = refl
+december false = refl
+
+pub next-year : NextYear
+unfolding yearDays
+next-year y g =
+    let n = yearsTo y in
+    let b = year-back y g in
+    let s : y +ℤ pos 1 ≡ yearAt (n + 1) = ap (λ z. z +ℤ pos 1) (sym b ∙ minus n 10000) ∙ plus n 10000 1 ∙ sym (minus (n + 1) 10000) in
+    let r = leap (yearAt n) in
+    ap (λ z. dayNumber z 1 1) s
+    ∙ later (yearAt n) (yearAt (n + 1)) 12 1 31 1 1
+    (days-in-year (n + 1) 1 1 ∙ omega (arith, no-months (leap (yearAt (n + 1))), no-months r, years-step n, december r) ∙ ap (λ k. k + 1) (sym (days-in-year n 12 31)))
+    ∙ ap (λ z. dayNumber z 12 31 +ℤ pos 1) b
+
+pub year-lengths : YearLengths
+unfolding yearDays
+year-lengths y = (λ e. ap (λ b. daysOfMonths b 12) e ∙ row-days true, λ f. common (leap y) f)
+  where
+    common : (b : Bool) → (b ≡ true → ⊥) → daysOfMonths b 12 ≡ 365
+    common true f = absurd (f refl)
+    common false f = row-days false
+
+pub day-of-its-date : DayOfItsDate
+unfolding dateAt
+day-of-its-date z g =
+    let l = day-low z g in
+    let t = raised 4371953 z in
+    let trip = day-trip t (omega (arith, closed-is 1, raised-low 4371953 z l (omega arith))) (omega (arith, all-years, raised-high 4371953 z l (omega arith) (day-high z g))) in
+    let d = dateIn t in
+    rw epoch
+    (trip .good, number (d .year) (d .month) (d .day) ∙ ap (λ n. subℕ n 4371953) (trip .back) ∙ lower 4371953 z l (omega arith))
+
+pub date-of-its-day : DateOfItsDay
+unfolding dateAt
+date-of-its-day y m d g =
+    let t = daysTo y m d in
+    let e = number y m d in (
+      rw (first-day, last-day, e, le-leZ (low 4371586 t 4371953 (omega (arith, closed-is 1, its-days-low y m d g)))) (le-leZ (high 2932896 t 4371953 (omega (arith, all-years, its-days-high y m d g)))),
+      rw (epoch, e, raised-back 4371953 t) (date-trip y m d g),
+    )

@@ -1,0 +1,110 @@
+-- `day_in_year` meets its contract: each refusal fails one test of the definition, and what is left is the sum. Assumes nothing.
+use borrow.Author.Needs.{needs}
+use borrow.Author.Tests.{le-leb, lt-leb}
+use mathlib.Core.Path.{_≡_, sym, ap, _∙_}
+use Prim.Native.Nat.{_+_, _-_, _<_}
+use lib.IntN.{subℕ}
+use lib.ListN.{getD}
+use mir.Syntax.{w64}
+use mir.Facts.{toZ-ofZ}
+use Rattle.refusal.specs.Answers.{gives}
+use Rattle.gregorian.specs.Gregorian.{leap, months, monthLength, yearAt, daysOfYears, daysOfMonths}
+use Rattle.gregorian.proofs.YearSums.{years-high}
+use Rattle.gregorian.proofs.MonthSums.{month-most, months-most}
+use Rattle.gregorian.proofs.Days.{number, days-in-year}
+use native.Mathlib.Omega.{arith}
+use Rattle.gregorian.proofs.dates.day_in_year.Statement.{statement}
+use Rattle.gregorian.proofs.dates.day_in_year.Tie as tie
+
+returns : tie.Need-returns
+returns c = simp (lt-leb 1 (c .before .args .month) (c .if1 .taken))
+
+returns-2 : tie.Need-returns-2
+returns-2 c =
+    let s = c .before .before .args in
+    simp (le-leb 1 (s .month) (omega arith), lt-leb (s .month) 12 (c .if2 .taken))
+
+returns-3 : tie.Need-returns-3
+returns-3 c =
+    let s = c .before .before .before .args in
+    simp (le-leb 1 (s .month) (omega arith), le-leb (s .month) 12 (omega arith), lt-leb 1 (s .day) (c .if3 .taken))
+
+is-leap-requires : tie.Need-is-leap-requires
+is-leap-requires c κs = search needs
+
+month-days-requires : tie.Need-month-days-requires
+month-days-requires c κs = search needs
+
+-- the month's length, in the calendar's words
+length-is : (c : tie.After-month-days) → let s = c .before .before .before .before .before .args in
+    c .month-days .result ≡ monthLength (yearAt (s .years)) (s .month)
+length-is c =
+    let s = c .before .before .before .before .before .args in
+    c .month-days .ensures ∙ ap (λ b. getD (months b) (s .month - 1) 0) (c .before .is-leap .ensures)
+
+returns-4 : tie.Need-returns-4
+returns-4 c =
+    let s = c .before .before .before .before .before .before .args in
+    simp (
+      le-leb 1 (s .month) (omega arith),
+      le-leb (s .month) 12 (omega arith),
+      le-leb 1 (s .day) (omega arith),
+      lt-leb (s .day) (monthLength (yearAt (s .years)) (s .month)) (omega (arith, length-is (c .before))),
+    )
+
+days-before-month-requires : tie.Need-days-before-month-requires
+days-before-month-requires c κs = search needs
+
+-- the sum, in the calendar's words, and how large it can be
+total : (c : tie.After-days-before-month) → let s = c .before .before .before .before .before .before .before .args in
+    s .start + c .days-before-month .result + (s .day - 1) ≡ daysOfYears (s .years) + daysOfMonths (leap (yearAt (s .years))) (s .month - 1) + (s .day - 1)
+total c =
+    let s = c .before .before .before .before .before .before .before in
+    omega (arith, s .pre .1, c .days-before-month .ensures, ap (λ b. daysOfMonths b (s .args .month - 1)) (c .before .before .before .is-leap .ensures))
+
+small : (c : tie.After-days-before-month) → let s = c .before .before .before .before .before .before .before .args in
+    s .start + c .days-before-month .result + (s .day - 1) < 10000000
+small c =
+    let s = c .before .before .before .before .before .before .before in
+    let b = leap (yearAt (s .args .years)) in
+    omega (arith, total c, years-high (s .args .years), s .pre .0, months-most b (s .args .month - 1) (omega arith), month-most b (s .args .month - 1) (omega arith), length-is (c .before .before))
+
+add-number-at : tie.Need-add-number-at
+add-number-at c = omega (arith, small c)
+
+add-number-at-2 : tie.Need-add-number-at-2
+add-number-at-2 c = omega (arith, small c)
+
+number-at-requires : tie.Need-number-at-requires
+number-at-requires c κs = small c
+
+returns-5 : tie.Need-returns-5
+returns-5 c =
+    let s = c .before .before .before .before .before .before .before .before in
+    let y = yearAt (s .args .years) in
+    simp (
+      le-leb 1 (s .args .month) (omega arith),
+      le-leb (s .args .month) 12 (omega arith),
+      le-leb 1 (s .args .day) (omega arith),
+      le-leb (s .args .day) (monthLength y (s .args .month)) (omega (arith, length-is (c .before .before .before))),
+    )
+    (ap gives
+    (toZ-ofZ {w = w64} (record { sfits = c .number-at .ok }) ∙ c .number-at .ensures
+    ∙ ap (λ n. subℕ n 4371953) (total (c .before) ∙ sym (days-in-year (s .args .years) (s .args .month) (s .args .day)))
+    ∙ sym (number y (s .args .month) (s .args .day))))
+
+pub day-in-year-spec : {M : Type 1} → statement M
+day-in-year-spec =
+    tie.close
+    (tie.spec
+    returns
+    returns-2
+    returns-3
+    is-leap-requires
+    month-days-requires
+    returns-4
+    days-before-month-requires
+    add-number-at
+    add-number-at-2
+    number-at-requires
+    returns-5)

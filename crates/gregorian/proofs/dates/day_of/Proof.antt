@@ -1,0 +1,51 @@
+-- `day_of` meets its contract: by the two tests of the year. Assumes nothing.
+use borrow.Author.Needs.{needs}
+use mathlib.Core.Path.{_≡_, sym, _∙_}
+use mathlib.Core.Bool.{true}
+use mir.Facts.{toZ-ofZ}
+use Rattle.gregorian.specs.Dates.{goodYear}
+use Rattle.gregorian.proofs.Days.{year-early, year-late, year-good, day-for}
+use Rattle.gregorian.proofs.dates.day_of.Statement.{statement}
+use Rattle.gregorian.proofs.dates.day_of.Tie as tie
+
+returns : tie.Need-returns
+returns c =
+    let s = c .before in
+    sym (year-early (s .args .year) (s .args .month) (s .args .day) (rw (toZ-ofZ (s .fits .year)) at (c .if1 .taken)))
+
+returns-2 : tie.Need-returns-2
+returns-2 c =
+    let s = c .before .before in
+    sym (year-late (s .args .year) (s .args .month) (s .args .day) (rw (toZ-ofZ (s .fits .year)) at (c .if2 .taken)))
+
+good : (c : tie.Else2) → goodYear (c .before .before .args .year) ≡ true
+good c =
+    let s = c .before .before in
+    let f = toZ-ofZ (s .fits .year) in
+    year-good (s .args .year) (rw f at (c .before .if1 .left)) (rw f at (c .if2 .left))
+
+years-to-requires : tie.Need-years-to-requires
+years-to-requires c κs = rw (toZ-ofZ (c .before .before .fits .year)) (good c)
+
+days-before-year-requires : tie.Need-days-before-year-requires
+days-before-year-requires c κs = search needs
+
+day-in-year-requires : tie.Need-day-in-year-requires
+day-in-year-requires c κs = search needs
+
+returns-3 : tie.Need-returns-3
+returns-3 c =
+    let s = c .before .before .before .before .before in
+    let n = rw (toZ-ofZ (s .fits .year)) at (c .before .before .years-to .ensures .0) in
+    c .day-in-year .ensures ∙ day-for (s .args .year) _ (s .args .month) (s .args .day) (good (c .before .before .before)) n
+
+pub day-of-spec : {M : Type 1} → statement M
+day-of-spec =
+    tie.close
+    (tie.spec
+    returns
+    returns-2
+    years-to-requires
+    days-before-year-requires
+    day-in-year-requires
+    returns-3)

@@ -1,0 +1,26 @@
+-- `year_days` meets its contract: by the leap rule. Assumes nothing.
+use borrow.Author.Needs.{needs}
+use mathlib.Core.Path.{sym, _∙_}
+use mathlib.Core.Bool.{true, false}
+use Rattle.gregorian.proofs.YearSums.{year-row}
+use native.Mathlib.Omega.{arith}
+use Rattle.gregorian.proofs.walk.year_days.Statement.{statement}
+use Rattle.gregorian.proofs.walk.year_days.Tie as tie
+
+is-leap-requires : tie.Need-is-leap-requires
+is-leap-requires c κs = search needs
+
+returns : tie.Need-returns
+returns c =
+    let n = c .before .before .args .years in
+    let e = year-row n true (sym (c .if1 .taken) ∙ c .before .is-leap .ensures) in
+    (omega (arith, e), omega arith, omega arith)
+
+returns-2 : tie.Need-returns-2
+returns-2 c =
+    let n = c .before .before .args .years in
+    let e = year-row n false (sym (c .if1 .left) ∙ c .before .is-leap .ensures) in
+    (omega (arith, e), omega arith, omega arith)
+
+pub year-days-spec : {M : Type 1} → statement M
+year-days-spec = tie.close (tie.spec is-leap-requires returns returns-2)

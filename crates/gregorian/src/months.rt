@@ -1,0 +1,62 @@
+// The months: their lengths, the days before each, and the month of a day of a year. A month is counted from 0 here.
+ghost use mathlib.Core.Path.{_≡_};
+ghost use Prim.Native.Nat.{_≤_, _<_};
+ghost use lib.ListN.{getD};
+ghost use Rattle.gregorian.specs.Gregorian.{months, daysOfMonths};
+ghost use Rattle.gregorian.specs.Parts.{lackingOf, InMonth};
+
+// The lengths of the months: row 0 for common years, row 1 for leap years.
+const MONTHS: [[u8; 12]; 2] = [
+    [31, 28, 31, 30, 31, 30, 31, 31, 30, 31, 30, 31],
+    [31, 29, 31, 30, 31, 30, 31, 31, 30, 31, 30, 31],
+];
+
+// The length of a month.
+pub fn month_days(leap: bool, month: u64) -> u64
+    requires { ⌜ month < 12 ⌝ }
+    ensures { λ r. ⌜ r ≡ getD (months leap) month 0 ⌝ }
+{
+    MONTHS[leap as usize][month as usize] as u64
+}
+
+// What February lacks of 30 days, of a month after it.
+fn lacking(leap: bool, month: u64) -> u64
+    ensures { λ r. ⌜ r ≡ lackingOf leap month ⌝ }
+{
+    if month < 2 {
+        return 0;
+    }
+    if leap { 1 } else { 2 }
+}
+
+// The days before a month. Without February's lack they are 30 or 31 a month, spread evenly.
+pub fn days_before_month(leap: bool, month: u64) -> u64
+    requires { ⌜ month ≤ 12 ⌝ }
+    ensures { λ r. ⌜ r ≡ daysOfMonths leap month ⌝ }
+{
+    (367 * month + 5) / 12 - lacking(leap, month)
+}
+
+// A month, and the days that have passed in it.
+pub struct MonthDay {
+    pub month: u64,
+    pub left: u64,
+}
+
+// The month of a day of a year. The day over 32 is the month, or the one before.
+pub fn month_of(leap: bool, day: u64) -> MonthDay
+    requires { ⌜ day < daysOfMonths leap 12 ⌝ }
+    ensures { λ r. ⌜ InMonth leap day (r .month) (r .left) ⌝ }
+{
+    let guess = day / 32;
+    let left = day - days_before_month(leap, guess);
+    let length = month_days(leap, guess);
+    if left < length {
+        MonthDay { month: guess, left }
+    } else {
+        MonthDay {
+            month: guess + 1,
+            left: left - length,
+        }
+    }
+}
