@@ -1,0 +1,4 @@
+pub mod Window
+pub mod Days
+pub mod Promises
+pub mod Order

@@ -1,0 +1,50 @@
+-- `seconds_at` meets its contract: the answer about the date, taken apart. Assumes nothing.
+use borrow.Author.Needs.{needs}
+use mathlib.Core.Path.{_≡_, sym, ap, _∙_}
+use mir.Syntax.{w64}
+use mir.Facts.{toZ-ofZ}
+use Rattle.refusal.specs.Answers.{gives}
+use Rattle.gregorian.specs.Answers.{readDay, dayFor}
+use Rattle.civil.specs.Parts.{secondsOn}
+use Rattle.civil.specs.declared.times.Civil.{Civil}
+use Rattle.civil.proofs.Days.{no-day, some-day, day-small}
+use Rattle.civil.proofs.times.seconds_at.Statement.{statement}
+use Rattle.civil.proofs.times.seconds_at.Tie as tie
+
+day-of-requires : tie.Need-day-of-requires
+day-of-requires c κs = search needs
+
+enum-known-found : tie.Need-enum-known-found
+enum-known-found c = search needs
+
+enum-told : tie.Need-enum-told
+enum-told c = search needs
+
+abbrev time : tie.Start → Civil
+time s = record { year = s .args .year; month = s .args .month; day = s .args .day; hour = s .args .hour; minute = s .args .minute; second = s .args .second }
+
+returns : tie.Need-returns
+returns c =
+    let s = c .before .before .before in
+    sym (no-day (time s) (sym (ap readDay (c .enum-told .given .1)) ∙ (rw (toZ-ofZ (s .fits .year)) at (c .before .before .day-of .ensures))))
+
+given : (c : tie.After-known-told) → let s = c .before .before .before .before .args in gives (c .before .found .given .0 .0) ≡ dayFor (s .year) (s .month) (s .day)
+given c =
+    let s = c .before .before .before .before in
+    sym (ap readDay (c .before .found .given .1)) ∙ (rw (toZ-ofZ (s .fits .year)) at (c .before .before .before .day-of .ensures))
+
+seconds-on-requires : tie.Need-seconds-on-requires
+seconds-on-requires c κs =
+    let s = c .before .before .before .before in
+    rw (toZ-ofZ {w = w64} (record { sfits = c .known-told .given .0 .1 })) (day-small (s .args .year) (s .args .month) (s .args .day) (given c))
+
+returns-2 : tie.Need-returns-2
+returns-2 c =
+    let s = c .before .before .before .before .before in
+    c .seconds-on .ensures ∙ ap (λ z. secondsOn z (s .args .hour) (s .args .minute) (s .args .second)) (toZ-ofZ {w = w64} {z = c .before .before .found .given .0 .0} (record { sfits = c .before .known-told .given .0 .1 }))
+    ∙ sym (some-day (time s) (given (c .before)))
+
+pub seconds-at-spec : {M : Type 1} → statement M
+seconds-at-spec =
+    tie.close
+    (tie.spec day-of-requires enum-known-found enum-told returns seconds-on-requires returns-2)

@@ -1,0 +1,79 @@
+-- `fields_of_by_walk` meets its contract: by the two tests of the window, and the answer about the day, taken apart. Assumes nothing.
+use borrow.Author.Needs.{needs}
+use mathlib.Core.Path.{_≡_, sym, ap, _∙_}
+use mathlib.Core.Bool.{true}
+use mir.Syntax.{w64}
+use mir.Facts.{toZ-ofZ}
+use Rattle.refusal.specs.Answers.{gives}
+use Rattle.signed.specs.Floor.{floorDiv}
+use Rattle.gregorian.specs.Answers.{readDated, dateFor}
+use Rattle.civil.specs.Times.{inWindow}
+use Rattle.civil.specs.Parts.{onDate}
+use Rattle.civil.proofs.Window.{window-early, window-late, window-good}
+use Rattle.civil.proofs.Days.{no-date, some-date}
+use Rattle.civil.proofs.walk.fields_of_by_walk.Statement.{statement}
+use Rattle.civil.proofs.walk.fields_of_by_walk.Tie as tie
+
+returns : tie.Need-returns
+returns c = rw (window-early (c .before .args .seconds) (rw (toZ-ofZ (c .before .fits .seconds)) at (c .if1 .taken)))
+
+returns-2 : tie.Need-returns-2
+returns-2 c = rw (window-late (c .before .before .args .seconds) (rw (toZ-ofZ (c .before .before .fits .seconds)) at (c .if2 .taken)))
+
+div-floor-requires : tie.Need-div-floor-requires
+div-floor-requires c κs = search needs
+
+date-of-by-walk-requires : tie.Need-date-of-by-walk-requires
+date-of-by-walk-requires c κs = search needs
+
+enum-known-found : tie.Need-enum-known-found
+enum-known-found c = search needs
+
+enum-told : tie.Need-enum-told
+enum-told c = search needs
+
+good : (c : tie.Else2) → inWindow (c .before .before .args .seconds) ≡ true
+good c =
+    let s = c .before .before in
+    let f = toZ-ofZ (s .fits .seconds) in
+    window-good (s .args .seconds) (rw f at (c .before .if1 .left)) (rw f at (c .if2 .left))
+
+answered : (c : tie.After-date-of-by-walk) → readDated (c .date-of-by-walk .result) ≡ dateFor (floorDiv (c .before .before .before .before .args .seconds) 86400)
+answered c =
+    let n = toZ-ofZ {w = w64} (record { sfits = c .before .div-floor .ok }) ∙ (rw (toZ-ofZ (c .before .before .before .before .fits .seconds)) at (c .before .div-floor .ensures)) in
+    c .date-of-by-walk .ensures ∙ ap dateFor n
+
+returns-3 : tie.Need-returns-3
+returns-3 c =
+    let d = c .before .before in
+    let e = d .before .before in
+    absurd (no-date (e .before .before .args .seconds) (good e) (sym (ap readDated (c .enum-told .given .1)) ∙ answered d))
+
+rem-floor-requires : tie.Need-rem-floor-requires
+rem-floor-requires c κs = search needs
+
+on-date-requires : tie.Need-on-date-requires
+on-date-requires c κs = search needs
+
+returns-4 : tie.Need-returns-4
+returns-4 c =
+    let d = c .before .before .before .before .before in
+    let e = d .before .before in
+    let s = e .before .before in
+    let t = rw (toZ-ofZ (s .fits .seconds)) at (c .before .rem-floor .ensures) in
+    ap gives (c .on-date .ensures ∙ ap (onDate _) t) ∙ some-date (s .args .seconds) (good e) (sym (ap readDated (c .before .before .before .found .given .1)) ∙ answered d)
+
+pub fields-of-by-walk-spec : {M : Type 1} → statement M
+fields-of-by-walk-spec =
+    tie.close
+    (tie.spec
+    returns
+    returns-2
+    div-floor-requires
+    date-of-by-walk-requires
+    enum-known-found
+    enum-told
+    returns-3
+    rem-floor-requires
+    on-date-requires
+    returns-4)

@@ -1,0 +1,5 @@
+pub mod Instants
+pub mod Times
+pub mod Answers
+pub mod Promises
+pub mod Parts
