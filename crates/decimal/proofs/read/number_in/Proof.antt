@@ -1,0 +1,67 @@
+-- `decimal::read::number_in` meets its contract: by the text's first byte. Assumes nothing.
+use borrow.Author.Needs.{needs}
+use mathlib.Core.Path.{ap, sym, _∙_}
+use native.Mathlib.Nat.{pos-of-ne-zero}
+use Rattle.decimal.specs.Read.{naturalOf, positive, negative}
+use Rattle.decimal.proofs.Parts.{from-on}
+use Rattle.decimal.proofs.Reading.{none, minus, no-minus}
+use Rattle.decimal.proofs.read.number_in.Statement.{statement}
+use Rattle.decimal.proofs.read.number_in.Tie as tie
+
+returns : tie.Need-returns
+returns c = none _ (c .if1 .taken)
+
+shared-slice-read-if2 : tie.Need-shared-slice-read-if2
+shared-slice-read-if2 c = search needs
+
+sub-natural-in : tie.Need-sub-natural-in
+sub-natural-in c = search needs
+
+part-natural-in-start : tie.Need-part-natural-in-start
+part-natural-in-start c = search needs
+
+part-natural-in-end : tie.Need-part-natural-in-end
+part-natural-in-end c = search needs
+
+natural-in-requires : tie.Need-natural-in-requires
+natural-in-requires c κs = search needs
+
+negative-of-requires : tie.Need-negative-of-requires
+negative-of-requires c κs = search needs
+
+returns-2 : tie.Need-returns-2
+returns-2 c =
+    let test = c .before .before .before in
+    let some = test .before .before in
+    let text = some .before .before .args .text .now in
+    c .negative-of .ensures ∙ ap negative (c .before .natural-in .ensures ∙ ap naturalOf (from-on text 1))
+    ∙ sym (minus text (pos-of-ne-zero (some .if1 .left)) (test .if2 .taken))
+
+natural-in-requires-2 : tie.Need-natural-in-requires-2
+natural-in-requires-2 c κs = search needs
+
+positive-of-requires : tie.Need-positive-of-requires
+positive-of-requires c κs = search needs
+
+returns-3 : tie.Need-returns-3
+returns-3 c =
+    let test = c .before .before in
+    let some = test .before .before in
+    c .positive-of .ensures ∙ ap positive (c .before .natural-in2 .ensures)
+    ∙ sym (no-minus (some .before .before .args .text .now) (pos-of-ne-zero (some .if1 .left)) (test .if2 .left))
+
+pub number-in-spec : {M : Type 1} → statement M
+number-in-spec =
+    tie.close
+    (tie.spec
+    returns
+    shared-slice-read-if2
+    sub-natural-in
+    part-natural-in-start
+    part-natural-in-end
+    natural-in-requires
+    negative-of-requires
+    returns-2
+    natural-in-requires-2
+    positive-of-requires
+    returns-3)

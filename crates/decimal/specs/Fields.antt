@@ -1,0 +1,15 @@
+-- The two sides of a text's first space, which is the byte 32.
+use Prim.Native.Nat.{ℕ}
+use mathlib.Core.Bool.{cond}
+use mathlib.Core.List.{List, [], _∷_}
+use lib.Dec.{eqb}
+
+-- what stands before the first space: all of it where there is none
+unfoldable pub field : List ℕ → List ℕ
+field [] = []
+field (b ∷ bs) = cond (eqb b 32) [] (b ∷ field bs)
+
+-- what stands after the first space: nothing where there is none
+unfoldable pub rest : List ℕ → List ℕ
+rest [] = []
+rest (b ∷ bs) = cond (eqb b 32) bs (rest bs)

@@ -1,0 +1,4 @@
+-- What the contracts cite: a file for each source module.
+pub mod Read
+pub mod Fields
+pub mod Write
