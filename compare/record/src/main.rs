@@ -1,0 +1,81 @@
+//! record LIST FOLDER: makes the list LIST, writes its questions to FOLDER/stdin and jiff's answers to FOLDER/stdout,
+//! line for line, and says what it wrote.
+
+mod calendar;
+mod splitmix;
+
+use std::path::Path;
+use std::{env, fs, io, process};
+
+/// The longest line that the programs replaying a list read, its LF not counted.
+const LONGEST_LINE: usize = 64;
+
+/// A question and the answer to it, each a line without its LF.
+pub struct Line {
+    pub question: String,
+    pub answer: String,
+}
+
+/// A run of lines made in the same way.
+pub struct Part {
+    pub name: &'static str,
+    pub lines: Vec<Line>,
+}
+
+fn main() {
+    let arguments: Vec<String> = env::args().skip(1).collect();
+    let [list, folder] = arguments.as_slice() else {
+        usage()
+    };
+    let (seed, parts) = match list.as_str() {
+        "calendar" => (calendar::SEED, calendar::list()),
+        _ => usage(),
+    };
+    if let Err(error) = write(Path::new(folder), &parts) {
+        eprintln!("record: {folder}: {error}");
+        process::exit(1);
+    }
+    println!("list {list}, jiff {}, seed {seed}", env!("JIFF_VERSION"));
+    for part in &parts {
+        println!("{}: {}", part.name, counts(&part.lines));
+    }
+    println!(
+        "whole list: {}",
+        counts(parts.iter().flat_map(|part| &part.lines))
+    );
+}
+
+fn usage() -> ! {
+    eprintln!("usage: record calendar FOLDER");
+    process::exit(2)
+}
+
+fn write(folder: &Path, parts: &[Part]) -> io::Result<()> {
+    let mut questions = String::new();
+    let mut answers = String::new();
+    for line in parts.iter().flat_map(|part| &part.lines) {
+        append(&mut questions, &line.question);
+        append(&mut answers, &line.answer);
+    }
+    fs::create_dir_all(folder)?;
+    fs::write(folder.join("stdin"), questions)?;
+    fs::write(folder.join("stdout"), answers)
+}
+
+fn append(text: &mut String, line: &str) {
+    assert!(
+        line.is_ascii() && line.len() <= LONGEST_LINE,
+        "not a line of a list: {line}"
+    );
+    text.push_str(line);
+    text.push('\n');
+}
+
+fn counts<'a>(lines: impl IntoIterator<Item = &'a Line>) -> String {
+    let (mut all, mut refused) = (0, 0);
+    for line in lines {
+        all += 1;
+        refused += usize::from(line.answer.starts_with("refused "));
+    }
+    format!("{all} lines, {refused} of them refused")
+}
