@@ -2,10 +2,10 @@
 use mathlib.Core.Path.{_≡_, sym, ap, _∙_}
 use Prim.Native.Nat.{ℕ, suc, _+_, _-_, _*_, _/_, _%_, _<_}
 use native.Mathlib.Omega.{arith}
-use native.Mathlib.Nat.{mod-lt, div-add-mod', div-eq-of-lt-le, div-lt-iff-lt-mul, mod-eq-sub-div-mul, mul-add-mod-self-right, mul-assoc, mul-pos}
-use lib.IntN.{ℤ, pos, negsuc, _+ℤ_, _*ℤ_}
+use native.Mathlib.Nat.{add-mul, mod-lt, div-add-mod', div-eq-of-lt-le, div-lt-iff-lt-mul, mod-eq-sub-div-mul, mul-add-mod-self-right, mul-assoc, mul-pos}
+use lib.IntN.{ℤ, pos, negsuc, subℕ, _+ℤ_, _*ℤ_}
 use Rattle.signed.specs.Floor.{quotient, rest}
-use Rattle.signed.proofs.Differences.{sub-lt, neg-plus}
+use Rattle.signed.proofs.Differences.{sub-lt, neg-plus, plus, times-plus}
 
 pub floor-law : (z : ℤ) (d : ℕ) → 0 < d → (quotient z d *ℤ pos d +ℤ pos (rest z d) ≡ z) × (rest z d < d)
 floor-law (pos a) d h = (ap pos (omega (arith, div-add-mod' a d)), mod-lt a h)
@@ -30,6 +30,20 @@ floor-back (negsuc a) d r h =
       ap (λ y. quotient y d) z ∙ ap negsuc (div-is a d (d - suc r) l),
       ap (λ y. rest y d) z ∙ ap (λ k. d - suc k) (mod-is a d (d - suc r) l) ∙ omega arith,
     )
+
+-- k times d more is a quotient that is k more, and the same rest
+more : (q : ℤ) (k d r : ℕ) → q *ℤ pos d +ℤ pos r +ℤ pos (k * d) ≡ (q +ℤ pos k) *ℤ pos d +ℤ pos r
+more (pos a) k d r = ap pos (omega (arith, add-mul a k d))
+more (negsuc a) k d r =
+    ap (λ z. z +ℤ pos (k * d)) (neg-plus (suc a * d) r) ∙ plus r (suc a * d) (k * d)
+    ∙ ap (λ n. subℕ n (suc a * d)) (omega arith) ∙ sym (times-plus k (suc a) d r)
+
+pub shifted : (z : ℤ) (k d : ℕ) → 0 < d → (quotient (z +ℤ pos (k * d)) d ≡ quotient z d +ℤ pos k) × (rest (z +ℤ pos (k * d)) d ≡ rest z d)
+shifted z k d h =
+    let f = floor-law z d h in
+    let e = ap (λ y. y +ℤ pos (k * d)) (sym (f .0)) ∙ more (quotient z d) k d (rest z d) in
+    let b = floor-back (quotient z d +ℤ pos k) d (rest z d) (f .1) in
+    (ap (λ y. quotient y d) e ∙ b .0, ap (λ y. rest y d) e ∙ b .1)
 
 -- a rest by q times d leaves by d what the number does
 mod-of-mod : (a q d : ℕ) → a % (q * d) % d ≡ a % d
