@@ -1,0 +1,38 @@
+-- Instants by their parts, and how large the seconds of one are that civil fields give.
+use mathlib.Core.Path.{_≡_, ap}
+use mathlib.Core.Bool.{Bool, true, false, cond}
+use Prim.Native.Nat.{ℕ, _<_, _^_}
+use lib.Dec.{ltb}
+use lib.IntN.{ℤ}
+use lib.Signed.{mag}
+use Rattle.refusal.specs.Answers.{Answer, gives, refused}
+use Rattle.refusal.proofs.Answers.{clash, held}
+use Rattle.civil.specs.Times.{good, secondsOf}
+use Rattle.civil.specs.Answers.{secondsFor}
+use Rattle.civil.specs.declared.times.Civil.{Civil}
+use Rattle.civil.specs.declared.instants.Instant.{Instant}
+use Rattle.civil.proofs.Promises.{its-window, window-size}
+use Rattle.registry.specs.Orders.{ordered}
+use Rattle.registry.specs.Reading.{fieldsIn}
+use Rattle.registry.specs.Words.{atSecond, fieldsDecode}
+use Rattle.registry.specs.declared.layouts.Layout.{Layout}
+
+pub of-parts : {t : Instant} {s : ℤ} {n : ℕ} → (t .seconds ≡ s) × (t .nanos ≡ n) → gives t ≡ gives (record { seconds = s; nanos = n })
+of-parts e = λ i. gives (record { seconds = e .0 i; nanos = e .1 i })
+
+-- an instant that is given has the seconds that are given
+its-seconds : (t : Instant) (b : Bool) (x : Answer ℤ) → gives t ≡ cond b (atSecond x) (refused 2) → gives (t .seconds) ≡ x
+its-seconds t true (gives s) e = let r : t ≡ record { seconds = s; nanos = 0 } = cc in ap (λ i. gives (i .seconds)) r
+its-seconds t true (refused n) e = absurd (clash n t (gives t) e (λ i. gives t))
+its-seconds t false x e = absurd (clash 2 t (gives t) e (λ i. gives t))
+
+small-time : (c : Civil) {s : ℤ} → gives s ≡ secondsFor c → mag s < 2 ^ 39
+small-time c {s} e =
+    let h = held (good c) s (secondsOf c) 3 e in
+    rw (h .1) (window-size (secondsOf c) (its-window c (h .0)))
+
+pub small : (l : Layout) (w : ℕ) {t : Instant} → gives t ≡ fieldsDecode l w → mag (t .seconds) < 2 ^ 39
+unfolding fieldsDecode
+small l w {t} e =
+    let p = ordered (l .order) w in
+    small-time (fieldsIn l p) (its-seconds t (ltb p (l .words)) (secondsFor (fieldsIn l p)) e)

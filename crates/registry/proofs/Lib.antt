@@ -1,0 +1,14 @@
+pub mod Powers
+pub mod Values
+pub mod Decoding
+pub mod Packing
+pub mod Sizes
+pub mod Instants
+pub mod Zones
+pub mod NokiaSeconds
+pub mod SqlDays
+pub mod Encoding
+pub mod Fourteen
+pub mod RuleNumbers
+pub mod Stamps
+pub mod Promises

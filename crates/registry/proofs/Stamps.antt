@@ -1,0 +1,12 @@
+-- The table of stamps, computed once. The sum of the years is closed first: summed year by year it takes long.
+use Rattle.gregorian.specs.Gregorian.{leap, daysOfMonths, daysTo, dayNumber}
+use Rattle.gregorian.proofs.YearSums.{closed-is}
+use Rattle.civil.specs.Times.{secondsOf}
+use Rattle.registry.specs.Orders.{reversed, ordered}
+use Rattle.registry.specs.Reading.{valueOf, fieldsIn}
+use Rattle.registry.specs.Words.{fieldsDecode, lessZone, gsmDecode, nokiaDecode, sqlDecode, sqlWord, sqlEncode, ruleFor}
+use Rattle.registry.specs.Stamps.{Stamps}
+
+pub stamps-hold : Stamps
+unfolding leap daysOfMonths daysTo dayNumber secondsOf reversed ordered valueOf fieldsIn fieldsDecode lessZone gsmDecode nokiaDecode sqlDecode sqlWord sqlEncode ruleFor
+stamps-hold = simp closed-is

@@ -1,0 +1,9 @@
+pub mod Orders
+pub mod Layouts
+pub mod Reading
+pub mod Writing
+pub mod Words
+pub mod Answers
+pub mod Stamps
+pub mod Promises
+pub mod Parts

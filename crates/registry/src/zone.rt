@@ -1,0 +1,41 @@
+// Layout 14: civil fields and a zone.
+ghost use mathlib.Core.Path.{_≡_};
+ghost use Prim.Native.Nat.{_<_, _^_};
+ghost use lib.Signed.{mag};
+ghost use Rattle.registry.specs.Words.{lessZone, gsmDecode};
+ghost use Rattle.registry.specs.Answers.{readDecoded};
+use crate::layouts::GSM;
+use crate::read::Decoded;
+use crate::read::decode_fields;
+use civil::Instant;
+use refusal::Refusal;
+
+// An instant less the offset of a zone byte: bit 3 is the sign, bits 0..2 are tens and the high nibble units of quarter
+// hours.
+fn less_zone(zone: u64, local: Instant) -> Decoded
+    requires { ⌜ (zone < 256) × (mag (local .seconds) < 2 ^ 39) ⌝ }
+    ensures { λ r. ⌜ readDecoded r ≡ lessZone zone local ⌝ }
+{
+    let units = zone / 16;
+    if 9 < units {
+        return Decoded::Refused(Refusal {
+            number: Refusal::ZONE,
+        });
+    }
+    let offset = ((zone % 8 * 10 + units) * 900) as i64;
+    let seconds = local.seconds;
+    if zone / 8 % 2 == 0 {
+        return Decoded::At(Instant::new(seconds - offset, local.nanos));
+    }
+    Decoded::At(Instant::new(seconds + offset, local.nanos))
+}
+
+pub fn decode_gsm(bits: u64) -> Decoded
+    ensures { λ r. ⌜ readDecoded r ≡ gsmDecode bits ⌝ }
+{
+    let found = decode_fields(GSM, bits);
+    let Decoded::At(local) = found else {
+        return found;
+    };
+    less_zone(bits % 256, local)
+}
