@@ -1,0 +1,14 @@
+pub mod Numbers
+pub mod Chain
+pub mod ByteOrders
+pub mod Regular
+pub mod Trip
+pub mod Round
+pub mod Latest
+pub mod Plain
+pub mod CivilLoss
+pub mod GsmLoss
+pub mod NokiaLoss
+pub mod SqlLoss
+pub mod Loss
+pub mod Surprises

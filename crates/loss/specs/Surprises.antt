@@ -1,0 +1,25 @@
+-- What may surprise a reader of specs/Loss.antt. Each is proved in proofs/Surprises.antt.
+use mathlib.Core.Path.{_≡_}
+use Prim.Native.Nat.{ℕ}
+use lib.IntN.{ℤ, pos, negℤ}
+use Rattle.refusal.specs.Answers.{gives, refused}
+use Rattle.civil.specs.declared.instants.Instant.{Instant}
+use Rattle.registry.specs.Words.{decodeFor, encodeFor}
+
+abbrev pub at : ℤ → ℕ → Instant
+at s n = record { seconds = s; nanos = n }
+
+-- a Gsm word can say an instant that the Gsm encoder refuses: 00 10 10 00 00 00 01 is 2000-01-01 00:00:00 at ten quarter
+-- hours east, which is 21:30 on the last day of 1999 in UTC
+abbrev pub ZoneLeavesTheYears : Type 0
+ZoneLeavesTheYears =
+    (decodeFor 14 0x00101000000001 ≡ gives (at (pos 946675800) 0)) × (encodeFor 14 (at (pos 946675800) 0) ≡ refused 7)
+
+-- the last half tick before the first day of layout 16 rolls into it and is written; the one after its last day rolls out
+-- of it and is refused
+abbrev pub RollAtTheEnds : Type 0
+RollAtTheEnds =
+    (encodeFor 16 (at (negℤ (pos 185544796176001)) 999000000) ≡ gives (negℤ (pos 9223372036854775808)))
+    × (encodeFor 16 (at (negℤ (pos 185544796176001)) 998000000) ≡ refused 8)
+    × (encodeFor 16 (at (pos 185540378198399) 998000000) ≡ gives (pos 9223372032585728511))
+    × (encodeFor 16 (at (pos 185540378198399) 999000000) ≡ refused 8)
