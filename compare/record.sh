@@ -1,19 +1,31 @@
 #!/bin/sh
-# record.sh LIST: makes a list of answers anew from the real jiff crate. Lists:
-#   calendar   writes crates/replay_calendar/stdin and stdout
+# record.sh LIST: makes a list of answers anew from the Rust's side. Lists:
+#   calendar   asks the real jiff crate; writes crates/replay_calendar/stdin and stdout
+#   words      asks timeglyph's src/registry.rs over the real jiff crate; writes crates/replay_words/stdin and stdout
 # Lays jiff in target/jiff with the script that GET_JIFF names (a path from the repository's root; without it,
-# ../shared/oracle/get-jiff), builds the recorder in target/compare and runs it. Needs cargo, and no network once jiff is laid.
+# ../shared/oracle/get-jiff), builds the recorder in target/compare and runs it. timeglyph is compiled from where it lies:
+# TIMEGLYPH names a checkout of it (a path from the repository's root; without it, ../shared/docs/src). Needs cargo, and no
+# network once jiff is laid.
 set -eu
 root=$(cd "$(dirname "$0")/.." && pwd)
 cd "$root"
 list=${1:-}
 case $list in
 calendar) folder=crates/replay_calendar ;;
+words) folder=crates/replay_words ;;
 *)
-    echo "usage: compare/record.sh calendar" >&2
+    echo "usage: compare/record.sh calendar | words" >&2
     exit 2
     ;;
 esac
+
+timeglyph=${TIMEGLYPH:-../shared/docs/src}
+if ! [ -f "$timeglyph/src/registry.rs" ]; then
+    echo "record.sh: timeglyph cannot be had: there is no $timeglyph/src/registry.rs; no list was written" >&2
+    exit 1
+fi
+TIMEGLYPH=$(cd "$timeglyph" && pwd)
+export TIMEGLYPH
 
 jiff=$root/target/jiff
 # laid is written last and holds the path: jiff's configuration names absolute paths.

@@ -1,9 +1,17 @@
-//! record LIST FOLDER: makes the list LIST, writes its questions to FOLDER/stdin and jiff's answers to FOLDER/stdout,
-//! line for line, and says what it wrote.
+//! record LIST FOLDER: makes the list LIST, writes its questions to FOLDER/stdin and the answers of the Rust's side to
+//! FOLDER/stdout, line for line, and says what it wrote.
 
 mod calendar;
 mod splitmix;
+#[path = "../stand_in/timeglyph.rs"]
+mod timeglyph;
+mod words;
 
+// `mod registry`, the Rust's own text, and what it looks for in the root of its crate.
+include!(concat!(env!("OUT_DIR"), "/registry.rs"));
+use timeglyph::{ChronoError, Format, PackedCodec, PosixNs};
+
+use std::collections::BTreeMap;
 use std::path::Path;
 use std::{env, fs, io, process};
 
@@ -27,8 +35,13 @@ fn main() {
     let [list, folder] = arguments.as_slice() else {
         usage()
     };
+    assert!(
+        calendar::jiff_tests_its_window(),
+        "this jiff takes nanoseconds outside its own window: no oracle for `refused 6`"
+    );
     let (seed, parts) = match list.as_str() {
         "calendar" => (calendar::SEED, calendar::list()),
+        "words" => (words::SEED, words::list()),
         _ => usage(),
     };
     if let Err(error) = write(Path::new(folder), &parts) {
@@ -39,21 +52,21 @@ fn main() {
     for part in &parts {
         println!("{}: {}", part.name, counts(&part.lines));
     }
-    println!(
-        "whole list: {}",
-        counts(parts.iter().flat_map(|part| &part.lines))
-    );
+    println!("whole list: {}", counts(lines_of(&parts)));
+    for (answer, count) in refusals(&parts) {
+        println!("{answer}: {count}");
+    }
 }
 
 fn usage() -> ! {
-    eprintln!("usage: record calendar FOLDER");
+    eprintln!("usage: record calendar | words FOLDER");
     process::exit(2)
 }
 
 fn write(folder: &Path, parts: &[Part]) -> io::Result<()> {
     let mut questions = String::new();
     let mut answers = String::new();
-    for line in parts.iter().flat_map(|part| &part.lines) {
+    for line in lines_of(parts) {
         append(&mut questions, &line.question);
         append(&mut answers, &line.answer);
     }
@@ -71,11 +84,28 @@ fn append(text: &mut String, line: &str) {
     text.push('\n');
 }
 
+fn lines_of(parts: &[Part]) -> impl Iterator<Item = &Line> {
+    parts.iter().flat_map(|part| &part.lines)
+}
+
 fn counts<'a>(lines: impl IntoIterator<Item = &'a Line>) -> String {
     let (mut all, mut refused) = (0, 0);
     for line in lines {
         all += 1;
-        refused += usize::from(line.answer.starts_with("refused "));
+        refused += usize::from(is_refused(line));
     }
     format!("{all} lines, {refused} of them refused")
+}
+
+/// How often each refusal is an answer.
+fn refusals(parts: &[Part]) -> BTreeMap<&str, usize> {
+    let mut all = BTreeMap::new();
+    for line in lines_of(parts).filter(|line| is_refused(line)) {
+        *all.entry(line.answer.as_str()).or_default() += 1;
+    }
+    all
+}
+
+fn is_refused(line: &Line) -> bool {
+    line.answer.starts_with("refused ")
 }

@@ -38,4 +38,20 @@ impl SplitMix {
             _ => (self.next() | 1 << 63) >> (64 - length),
         }
     }
+
+    /// A number of that many bits, at most 63, or its complement.
+    pub fn either_sign(&mut self, length: u32) -> i64 {
+        let number = self.of_bit_length(length) as i64;
+        if self.coin() {
+            number
+        } else {
+            !number
+        }
+    }
+
+    /// A number of a random bit length, of either sign.
+    pub fn of_any_length(&mut self) -> i64 {
+        let length = self.below(64) as u32;
+        self.either_sign(length)
+    }
 }

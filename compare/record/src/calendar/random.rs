@@ -13,7 +13,7 @@ const QUESTIONS: usize = 12_000;
 pub fn seconds(numbers: &mut SplitMix) -> Vec<Question> {
     (0..QUESTIONS)
         .map(|index| match index % 6 {
-            4 => any_seconds(numbers),
+            4 => numbers.of_any_length(),
             5 => seconds_beside_an_edge(numbers),
             _ => numbers.between(WINDOW_FIRST, WINDOW_LAST),
         })
@@ -30,21 +30,6 @@ pub fn fields(numbers: &mut SplitMix) -> Vec<Question> {
         })
         .map(Question::Fields)
         .collect()
-}
-
-fn any_seconds(numbers: &mut SplitMix) -> i64 {
-    let length = numbers.below(64) as u32;
-    either_sign(numbers, length)
-}
-
-/// A number of that many bits, at most 63, or its complement.
-fn either_sign(numbers: &mut SplitMix, length: u32) -> i64 {
-    let number = numbers.of_bit_length(length) as i64;
-    if numbers.coin() {
-        number
-    } else {
-        !number
-    }
 }
 
 /// At most two seconds away from the start of a year, a month or a day.
@@ -116,11 +101,11 @@ fn bad_year(numbers: &mut SplitMix, good: i64) -> i64 {
         1 => -10_000,
         2 => {
             let length = numbers.between(15, 63) as u32;
-            either_sign(numbers, length)
+            numbers.either_sign(length)
         }
         _ => {
             let length = numbers.between(1, 46) as u32;
-            good + either_sign(numbers, length) * 65_536
+            good + numbers.either_sign(length) * 65_536
         }
     }
 }

@@ -1,0 +1,157 @@
+//! The list of the sixteen words. A question is `d LAYOUT WORD`, answered by `SECONDS NANOS`, or `e LAYOUT SECONDS NANOS`,
+//! answered by the word; a refusal is `refused N`.
+//!
+//! The answers are those of the codecs in timeglyph's own src/registry.rs. Its errors have no numbers: `rules` has them.
+
+mod instant_boundaries;
+mod layouts;
+mod random;
+mod rules;
+mod stamps;
+mod word_boundaries;
+
+pub use random::SEED;
+
+use crate::registry::FORMATS;
+use crate::splitmix::SplitMix;
+use crate::{ChronoError, Line, PackedCodec, Part, PosixNs};
+use forensicnomicon::temporal_formats::Encoding;
+use layouts::NUMBERS;
+use std::collections::HashSet;
+use std::fmt;
+
+const NANOSECONDS_PER_SECOND: i128 = 1_000_000_000;
+
+/// The layout number and the nanoseconds are as wide as a line's numbers, so that they need not be good.
+#[derive(Clone, Copy, PartialEq, Eq, Hash)]
+pub enum Question {
+    Decode {
+        layout: i64,
+        word: i64,
+    },
+    Encode {
+        layout: i64,
+        seconds: i64,
+        nanos: i64,
+    },
+}
+
+impl fmt::Display for Question {
+    fn fmt(&self, out: &mut fmt::Formatter) -> fmt::Result {
+        match self {
+            Question::Decode { layout, word } => write!(out, "d {layout} {word}"),
+            Question::Encode {
+                layout,
+                seconds,
+                nanos,
+            } => write!(out, "e {layout} {seconds} {nanos}"),
+        }
+    }
+}
+
+pub fn decode(layout: i64, word: i64) -> Question {
+    Question::Decode { layout, word }
+}
+
+pub fn encode(layout: i64, seconds: i64, nanos: i64) -> Question {
+    Question::Encode {
+        layout,
+        seconds,
+        nanos,
+    }
+}
+
+pub fn list() -> Vec<Part> {
+    let mut numbers = SplitMix::new(SEED);
+    vec![
+        stamps(),
+        part("numbers outside", word_boundaries::numbers_outside()),
+        part(
+            "boundaries of words",
+            once(each(word_boundaries::questions)),
+        ),
+        part(
+            "boundaries of instants",
+            once(each(instant_boundaries::questions)),
+        ),
+        part("good words", each(|n| random::good(n, &mut numbers))),
+        part("damaged words", each(|n| random::damaged(n, &mut numbers))),
+        part("instants", each(|n| random::instants(n, &mut numbers))),
+    ]
+}
+
+/// Document 01's stamps. Stops where the Rust answers something else than the document.
+fn stamps() -> Part {
+    let (questions, answers): (Vec<_>, Vec<_>) = stamps::stamps().into_iter().unzip();
+    let part = part("stamps of document 01", questions);
+    for (line, answer) in part.lines.iter().zip(answers) {
+        assert_eq!(line.answer, answer, "document 01 on {}", line.question);
+    }
+    part
+}
+
+fn part(name: &'static str, questions: Vec<Question>) -> Part {
+    Part {
+        name,
+        lines: questions.iter().map(line).collect(),
+    }
+}
+
+/// The questions on each layout, in the order of the numbers.
+fn each(questions: impl FnMut(i64) -> Vec<Question>) -> Vec<Question> {
+    NUMBERS.flat_map(questions).collect()
+}
+
+/// Without those that came before.
+fn once(questions: Vec<Question>) -> Vec<Question> {
+    let mut seen = HashSet::new();
+    questions
+        .into_iter()
+        .filter(|&question| seen.insert(question))
+        .collect()
+}
+
+fn line(question: &Question) -> Line {
+    let answer = match *question {
+        Question::Decode { layout, word } => rules::decoding(layout, word).map(instant),
+        Question::Encode {
+            layout,
+            seconds,
+            nanos,
+        } => rules::encoding(layout, seconds, nanos).map(|word| word.to_string()),
+    };
+    Line {
+        question: question.to_string(),
+        answer: answer.unwrap_or_else(|number| format!("refused {number}")),
+    }
+}
+
+fn instant(count: PosixNs) -> String {
+    let seconds = count.0.div_euclid(NANOSECONDS_PER_SECOND);
+    let nanos = count.0.rem_euclid(NANOSECONDS_PER_SECOND);
+    format!("{seconds} {nanos}")
+}
+
+/// What the Rust makes of a word.
+fn rust_decodes(layout: i64, word: i64) -> Result<PosixNs, ChronoError> {
+    (codec(layout).decode)(word)
+}
+
+/// What the Rust makes of an instant.
+fn rust_encodes(layout: i64, seconds: i64, nanos: i64) -> Result<i64, ChronoError> {
+    let count = i128::from(seconds) * NANOSECONDS_PER_SECOND + i128::from(nanos);
+    let encode = codec(layout).encode.expect("each of the sixteen encodes");
+    encode(PosixNs(count))
+}
+
+/// The Rust's codec for a number from 1 to 16.
+fn codec(layout: i64) -> &'static PackedCodec {
+    FORMATS
+        .iter()
+        .find(|format| match format.meta.encoding {
+            Encoding::Packed(packed) => packed as i64 + 1 == layout,
+            _ => false,
+        })
+        .and_then(|format| format.packed.as_ref())
+        .expect("each of the sixteen has a codec")
+}
