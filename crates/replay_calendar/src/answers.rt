@@ -1,7 +1,6 @@
-// Answering a line by both engines. A function `put_..` puts its text into out from index `at` on and answers the index
-// behind it; where out has no room left, it stays as it is.
-use crate::questions::Question;
-use crate::questions::question_in;
+// Answering by both engines, on standard output. A function `say_..` ends its line. Each part of a line is a write of its
+// own, which keeps the proofs small, and one that fails goes unnoticed: what is missing is seen when the output is
+// compared.
 use civil::Civil;
 use civil::Fields;
 use civil::Seconds;
@@ -9,54 +8,53 @@ use civil::fields_of;
 use civil::fields_of_by_walk;
 use civil::seconds_of;
 use civil::seconds_of_by_walk;
-use decimal::put;
 use decimal::text_of;
+use libc::STDOUT_FILENO;
 use refusal::Refusal;
 
-fn put_signed(out: &mut [u8], at: usize, z: i64) -> usize {
+fn put(text: &[u8]) {
+    io::write_all(STDOUT_FILENO, text);
+}
+
+fn put_number(z: i64) {
     let text = text_of(z);
     let bytes = text.bytes;
     let from = text.from;
-    put(out, at, &bytes[from..])
+    put(&bytes[from..]);
 }
 
-fn put_unsigned(out: &mut [u8], at: usize, n: u64) -> usize {
-    let mut text = [0u8; 20];
-    let k = io::decimal(n, &mut text);
-    put(out, at, &text[..k])
+fn say_number(z: i64) {
+    put_number(z);
+    put(b"\n");
 }
 
 // A space, and then the number.
-fn put_next(out: &mut [u8], at: usize, n: u64) -> usize {
-    let to = put(out, at, b" ");
-    put_unsigned(out, to, n)
+fn put_next(n: u64) {
+    put(b" ");
+    io::print_decimal(STDOUT_FILENO, n);
 }
 
-fn put_civil(out: &mut [u8], at: usize, time: Civil) -> usize {
-    let year = put_signed(out, at, time.year);
-    let month = put_next(out, year, time.month);
-    let day = put_next(out, month, time.day);
-    let hour = put_next(out, day, time.hour);
-    let minute = put_next(out, hour, time.minute);
-    put_next(out, minute, time.second)
+pub fn say_bad_line() {
+    put(b"bad line\n");
 }
 
-fn put_refused(out: &mut [u8], at: usize, why: Refusal) -> usize {
-    let to = put(out, at, b"refused");
-    put_next(out, to, why.number as u64)
+fn say_engines_differ() {
+    put(b"engines differ\n");
 }
 
-fn same_seconds(a: Seconds, b: Seconds) -> bool {
-    match a {
-        Seconds::At(x) => match b {
-            Seconds::At(y) => x == y,
-            Seconds::Refused(_) => false,
-        },
-        Seconds::Refused(x) => match b {
-            Seconds::At(_) => false,
-            Seconds::Refused(y) => x.number == y.number,
-        },
-    }
+fn say_refused(why: Refusal) {
+    put(b"refused ");
+    say_number(why.number as i64);
+}
+
+fn say_civil(time: Civil) {
+    put_number(time.year);
+    put_next(time.month);
+    put_next(time.day);
+    put_next(time.hour);
+    put_next(time.minute);
+    put_next(time.second);
+    put(b"\n");
 }
 
 fn same_civil(a: Civil, b: Civil) -> bool {
@@ -78,52 +76,56 @@ fn same_civil(a: Civil, b: Civil) -> bool {
     a.second == b.second
 }
 
-fn same_fields(a: Fields, b: Fields) -> bool {
-    match a {
-        Fields::At(x) => match b {
-            Fields::At(y) => same_civil(x, y),
-            Fields::Refused(_) => false,
-        },
-        Fields::Refused(x) => match b {
-            Fields::At(_) => false,
-            Fields::Refused(y) => x.number == y.number,
-        },
+// A function `say_.._at` or `say_.._refused` has what the one engine answers, and says it where the other answers the same.
+fn say_seconds_at(seconds: i64, other: Seconds) {
+    if let Seconds::At(again) = other {
+        if seconds == again {
+            return say_number(seconds);
+        }
+    }
+    say_engines_differ();
+}
+
+fn say_seconds_refused(why: Refusal, other: Seconds) {
+    if let Seconds::Refused(again) = other {
+        if why.number == again.number {
+            return say_refused(why);
+        }
+    }
+    say_engines_differ();
+}
+
+fn say_fields_at(time: Civil, other: Fields) {
+    if let Fields::At(again) = other {
+        if same_civil(time, again) {
+            return say_civil(time);
+        }
+    }
+    say_engines_differ();
+}
+
+fn say_fields_refused(why: Refusal, other: Fields) {
+    if let Fields::Refused(again) = other {
+        if why.number == again.number {
+            return say_refused(why);
+        }
+    }
+    say_engines_differ();
+}
+
+// What both engines answer.
+pub fn say_seconds(time: Civil) {
+    let one = seconds_of(time);
+    match one {
+        Seconds::At(seconds) => say_seconds_at(seconds, seconds_of_by_walk(time)),
+        Seconds::Refused(why) => say_seconds_refused(why, seconds_of_by_walk(time)),
     }
 }
 
-// What both engines answer, where they answer the same.
-fn put_seconds(out: &mut [u8], at: usize, time: Civil) -> usize {
-    let a = seconds_of(time);
-    if same_seconds(a, seconds_of_by_walk(time)) {
-        return match a {
-            Seconds::At(seconds) => put_signed(out, at, seconds),
-            Seconds::Refused(why) => put_refused(out, at, why),
-        };
+pub fn say_fields(seconds: i64) {
+    let one = fields_of(seconds);
+    match one {
+        Fields::At(time) => say_fields_at(time, fields_of_by_walk(seconds)),
+        Fields::Refused(why) => say_fields_refused(why, fields_of_by_walk(seconds)),
     }
-    put(out, at, b"engines differ")
-}
-
-fn put_fields(out: &mut [u8], at: usize, seconds: i64) -> usize {
-    let a = fields_of(seconds);
-    if same_fields(a, fields_of_by_walk(seconds)) {
-        return match a {
-            Fields::At(time) => put_civil(out, at, time),
-            Fields::Refused(why) => put_refused(out, at, why),
-        };
-    }
-    put(out, at, b"engines differ")
-}
-
-fn put_answer(out: &mut [u8], at: usize, question: Question) -> usize {
-    match question {
-        Question::Seconds(time) => put_seconds(out, at, time),
-        Question::Fields(seconds) => put_fields(out, at, seconds),
-        Question::Bad => put(out, at, b"bad line"),
-    }
-}
-
-// The line that answers a line.
-pub fn put_line(out: &mut [u8], at: usize, line: &[u8]) -> usize {
-    let end = put_answer(out, at, question_in(line));
-    put(out, end, b"\n")
 }

@@ -11,21 +11,8 @@ mod answers;
 mod questions;
 
 ghost use Prim.Native.Nat.{_<_};
-use crate::answers::put_line;
+use crate::questions::answer;
 use libc::STDIN_FILENO;
-use libc::STDOUT_FILENO;
-
-// How many bytes of the unfinished line are held, and how many of the output are written.
-struct Fed {
-    held: usize,
-    wrote: usize,
-}
-
-// How many bytes of the unfinished line are held, and how many turns are left.
-struct Turned {
-    held: usize,
-    turns: u64,
-}
 
 // The first n bytes of s: all of it where it has fewer.
 fn first(s: &[u8], n: usize) -> &[u8] {
@@ -35,89 +22,62 @@ fn first(s: &[u8], n: usize) -> &[u8] {
     &s[..n]
 }
 
-// One byte of input. What `held` has no room for is dropped: such a line is too long in any case.
-fn take_byte(held: &mut [u8], n: usize, b: u8, out: &mut [u8], at: usize) -> Fed {
+// One byte of input: answers how many bytes of the unfinished line are held then, as `feed` and `run` do. What `held` has
+// no room for is dropped: such a line is too long in any case.
+fn take_byte(held: &mut [u8], n: usize, b: u8) -> usize {
     if b == b'\n' {
-        let wrote = put_line(out, at, first(held, n));
-        return Fed { held: 0, wrote };
+        answer(first(held, n));
+        return 0;
     }
     if n < held.len() {
         held[n] = b;
-        return Fed {
-            held: n + 1,
-            wrote: at,
-        };
-    }
-    Fed { held: n, wrote: at }
-}
-
-// A block of input.
-fn feed(held: &mut [u8], n: usize, block: &[u8], out: &mut [u8]) -> Fed {
-    let mut len = n;
-    let mut at = 0;
-    let mut i = 0;
-    while i < block.len() {
-        let b = block[i];
-        let fed = take_byte(held, len, b, out, at);
-        len = fed.held;
-        at = fed.wrote;
-        i += 1;
-    }
-    Fed {
-        held: len,
-        wrote: at,
-    }
-}
-
-// Reads once and writes what its lines ask. No turns are left where the input has ended; where the output fails, the
-// unfinished line is dropped too.
-fn turn(held: &mut [u8], n: usize, block: &mut [u8], out: &mut [u8], turns: u64) -> Turned
-    requires { ⌜ 0 < turns ⌝ }
-    ensures { λ r. ⌜ r .turns < turns ⌝ }
-{
-    let got = libc::read(STDIN_FILENO, block);
-    let k = io::count(got, block);
-    if k == 0 {
-        return Turned { held: n, turns: 0 };
-    }
-    let fed = feed(held, n, &block[..k], out);
-    if io::write_all(STDOUT_FILENO, first(out, fed.wrote)) {
-        return Turned {
-            held: fed.held,
-            turns: turns - 1,
-        };
-    }
-    Turned { held: 0, turns: 0 }
-}
-
-// All of the input but a last line that lacks its LF: answers how many bytes of that are held. A proved loop has to
-// end, and nothing says that the input does, so it counts its turns down, from a number that no run uses up.
-fn run(held: &mut [u8], block: &mut [u8], out: &mut [u8]) -> usize {
-    let mut n: usize = 0;
-    let mut turns = u64::MAX;
-    while 0 < turns {
-        let t = turn(held, n, block, out, turns);
-        n = t.held;
-        turns = t.turns;
+        return n + 1;
     }
     n
 }
 
-// The last line, where it lacks its LF.
-fn finish(line: &[u8], out: &mut [u8]) {
-    if line.len() == 0 {
-        return;
+// A block of input.
+fn feed(held: &mut [u8], n: usize, block: &[u8]) -> usize {
+    let mut len = n;
+    let mut i = 0;
+    while i < block.len() {
+        let b = block[i];
+        len = take_byte(held, len, b);
+        i += 1;
     }
-    let end = put_line(out, 0, line);
-    io::write_all(STDOUT_FILENO, first(out, end));
+    len
 }
 
-// An empty line asks for the most output to a byte of input, the 9 bytes of `bad line` and its LF. `out` has room for 16
-// to a byte of `block`.
+// How many turns are left after one that has read k bytes: none where the input has ended.
+fn turns_left(turns: u64, k: usize) -> u64
+    requires { ⌜ 0 < turns ⌝ }
+    ensures { λ r. ⌜ r < turns ⌝ }
+{
+    if k == 0 {
+        return 0;
+    }
+    turns - 1
+}
+
+// All of the input but a last line that lacks its LF. A proved loop has to end, and nothing says that the input does, so
+// it counts its turns down, from a number that no run uses up.
+fn run(held: &mut [u8], block: &mut [u8]) -> usize {
+    let mut n: usize = 0;
+    let mut turns = u64::MAX;
+    while 0 < turns {
+        let got = libc::read(STDIN_FILENO, block);
+        let k = io::count(got, block);
+        n = feed(held, n, &block[..k]);
+        turns = turns_left(turns, k);
+    }
+    n
+}
+
 fn main() {
     let mut held = io::buffer();
     let mut block = io::buffer();
-    let mut out = io::large_buffer();
-    let n = run(&mut held, &mut block, &mut out);
-    finish(first(&held, n), &mut out);
+    let n = run(&mut held, &mut block);
+    if 0 < n {
+        answer(first(&held, n));
+    }
 }

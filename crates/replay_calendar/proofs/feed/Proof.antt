@@ -1,5 +1,4 @@
--- `replay_calendar::feed` is safe: the index stays within the block, and both buffers keep their lengths.
--- Assumes nothing.
+-- `replay_calendar::feed` is safe: the index stays within the block, and `held` keeps its length. Assumes nothing.
 use Prim.Native.Nat.{_≤_, _-_}
 use mathlib.Core.Path.{_≡_}
 use native.Mathlib.Omega.{arith}
@@ -8,11 +7,10 @@ use Rattle.replay_calendar.proofs.feed.Statement.{statement}
 use Rattle.replay_calendar.proofs.feed.Tie as tie
 
 abbrev Inv-loop : tie.InvT-loop
-Inv-loop held₀ n block out₀ len₀ at₀ i₀ held out len at i =
-    (i ≤ length block) × (length held ≡ length held₀) × (length out ≡ length out₀)
+Inv-loop held₀ n block len₀ i₀ held len i = (i ≤ length block) × (length held ≡ length held₀)
 
 abbrev μ-loop : tie.MeasureT-loop
-μ-loop held₀ n block out₀ len₀ at₀ i₀ held out len at i = length block - i
+μ-loop held₀ n block len₀ i₀ held len i = length block - i
 
 loop-holds : tie.Need-loop-holds Inv-loop μ-loop
 loop-holds c = omega arith
@@ -35,9 +33,6 @@ loop-again c = omega arith
 same-length : tie.Need-same-length Inv-loop μ-loop
 same-length c = omega arith
 
-same-length-2 : tie.Need-same-length-2 Inv-loop μ-loop
-same-length-2 c = omega arith
-
 returns : tie.Need-returns Inv-loop μ-loop
 returns c = omega arith
 
@@ -54,5 +49,4 @@ feed-spec =
     loop-less
     loop-again
     same-length
-    same-length-2
     returns)
