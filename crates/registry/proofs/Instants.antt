@@ -26,7 +26,7 @@ its-seconds t true (gives s) e = let r : t ≡ record { seconds = s; nanos = 0 }
 its-seconds t true (refused n) e = absurd (clash n t (gives t) e (λ i. gives t))
 its-seconds t false x e = absurd (clash 2 t (gives t) e (λ i. gives t))
 
-small-time : (c : Civil) {s : ℤ} → gives s ≡ secondsFor c → mag s < 2 ^ 39
+pub small-time : (c : Civil) {s : ℤ} → gives s ≡ secondsFor c → mag s < 2 ^ 39
 small-time c {s} e =
     let h = held (good c) s (secondsOf c) 3 e in
     rw (h .1) (window-size (secondsOf c) (its-window c (h .0)))

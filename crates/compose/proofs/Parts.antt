@@ -1,0 +1,71 @@
+-- What a stamp's length, its civil time and its parts make of its answer.
+use mathlib.Core.Path.{_≡_, sym, ap, _∙_}
+use mathlib.Core.List.{List}
+use Prim.Native.Nat.{ℕ, zero, suc, _+_, _*_, _%_, _^_, _≤_, _<_}
+use native.Mathlib.Omega.{arith}
+use native.Mathlib.Decide.{decLt}
+use lib.IntN.{ℤ, pos, negsuc, negℤ, _+ℤ_, _-ℤ_, _*ℤ_, +ℤ-assoc}
+use lib.ListN.{length}
+use lib.Signed.{mag}
+use mir.Syntax.{w64}
+use mir.Val.{SFits}
+use borrow.Author.Tests.{eq-eqb, ne-eqb}
+use Rattle.refusal.specs.Answers.{Answer, refused}
+use Rattle.refusal.proofs.Answers.{failed}
+use Rattle.signed.specs.Extend.{twos, lowSigned}
+use Rattle.signed.proofs.Differences.{minus, times-plus}
+use Rattle.signed.proofs.Extend.{lower-half, upper-half}
+use Rattle.civil.specs.Answers.{secondsFor}
+use Rattle.civil.specs.Times.{good, secondsOf}
+use Rattle.civil.specs.declared.times.Civil.{Civil}
+use Rattle.civil.specs.declared.instants.Instant.{Instant}
+use Rattle.registry.proofs.Sizes.{sum, times, sum-fits}
+use Rattle.compose.specs.Stamps.{ofLength}
+
+-- ---- length and civil time
+
+pub wrong-length : (n : ℕ) (b : List ℕ) (x : Answer Instant) → (length b ≡ n → ⊥) → ofLength n b x ≡ refused 10
+wrong-length n b x h = rw (ne-eqb (length b) n h)
+
+pub right-length : (n : ℕ) (b : List ℕ) (x : Answer Instant) → length b ≡ n → ofLength n b x ≡ x
+right-length n b x e = rw (eq-eqb (length b) n e)
+
+-- fields that are refused are refused under 3
+pub no-seconds : (c : Civil) {n : ℕ} → refused n ≡ secondsFor c → secondsFor c ≡ refused 3
+no-seconds c {n} e = rw (failed (good c) (secondsOf c) 3 n e)
+
+-- ---- the year of an Oracle DATE
+
+pub oracle-year : (a b : ℕ) → pos (a * 100 + b) -ℤ pos 10100 ≡ (pos a -ℤ pos 100) *ℤ pos 100 +ℤ (pos b -ℤ pos 100)
+oracle-year a b =
+    sym (+ℤ-assoc (pos (a * 100 + b)) (negsuc 9999) (negsuc 99))
+    ∙ ap (λ z. z +ℤ negsuc 99) (minus (a * 100 + b) 10000 ∙ sym (ap (λ z. z *ℤ pos 100 +ℤ pos b) (minus a 100) ∙ times-plus a 100 100 b))
+    ∙ +ℤ-assoc ((pos a -ℤ pos 100) *ℤ pos 100) (pos b) (negsuc 99)
+
+-- ---- the zone of a UDF timestamp
+
+twelve : (m : ℕ) → m < 4096 → mag (twos 12 m) < 4096
+twelve m h = go (decLt (2 * m) 4096)
+  where
+    go : Dec (2 * m < 4096) → mag (twos 12 m) < 4096
+    go (yes l) = rw (lower-half 12 m l) (omega arith)
+    go (no l) = rw (upper-half 12 m (omega arith) (omega arith)) (omega arith)
+
+pub minutes-small : (z : ℕ) → mag (lowSigned 12 z) < 4096
+minutes-small z = twelve (z % 2 ^ 12) (omega arith)
+
+turned : (z : ℤ) → mag (negℤ z) ≤ suc (mag z)
+turned (pos zero) = omega arith
+turned (pos (suc n)) = omega arith
+turned (negsuc n) = omega arith
+
+-- a second of the civil window, a carry and a zone: all that is added fits
+module _ (s m : ℤ) (k : ℕ) (hs : mag s < 2 ^ 39) (hm : mag m < 4096) (hk : k < 3) where
+  pub zone-fits : SFits w64 (m *ℤ pos 60)
+  zone-fits = record { sfits = omega (arith, times m 60 (omega arith)) }
+
+  pub carry-fits : SFits w64 (s +ℤ pos k)
+  carry-fits = sum-fits s (pos k) (omega arith)
+
+  pub moved-fits : SFits w64 (s +ℤ pos k -ℤ m *ℤ pos 60)
+  moved-fits = sum-fits (s +ℤ pos k) (negℤ (m *ℤ pos 60)) (omega (arith, sum s (pos k), turned (m *ℤ pos 60), times m 60 (omega arith)))

@@ -1,0 +1,28 @@
+// Bytes of a stamp.
+ghost use mathlib.Core.Path.{_≡_};
+ghost use Prim.Native.Nat.{_+_, _<_};
+ghost use lib.ListN.{length};
+ghost use Rattle.compose.specs.Stamps.{byte, word};
+
+// A byte as a wide number.
+fn widened(b: u8) -> u64
+    ensures { λ r. ⌜ (r ≡ b) × (r < 256) ⌝ }
+{
+    b as u64
+}
+
+// Byte k of a stamp.
+pub fn byte_of(stamp: &[u8], k: usize) -> u64
+    requires { ⌜ k < length (now stamp) ⌝ }
+    ensures { λ r. ⌜ (r ≡ byte (now (stamp .entry)) k) × (r < 256) ⌝ }
+{
+    widened(stamp[k])
+}
+
+// Bytes k and k + 1 of a stamp, the low one first.
+pub fn word_of(stamp: &[u8], k: usize) -> u64
+    requires { ⌜ k + 1 < length (now stamp) ⌝ }
+    ensures { λ r. ⌜ (r ≡ word (now (stamp .entry)) k) × (r < 65536) ⌝ }
+{
+    byte_of(stamp, k) + byte_of(stamp, k + 1) * 256
+}
