@@ -2,6 +2,7 @@
 # record.sh LIST: makes a list of answers anew from the Rust's side. Lists:
 #   calendar   asks the real jiff crate; writes crates/replay_calendar/stdin and stdout
 #   words      asks timeglyph's src/registry.rs over the real jiff crate; writes crates/replay_words/stdin and stdout
+#   composites asks timeglyph's src/compose.rs over the real jiff crate; writes crates/composites/stdin and stdout
 # Lays jiff in target/jiff with the script that GET_JIFF names (a path from the repository's root; without it,
 # ../shared/oracle/get-jiff), builds the recorder in target/compare and runs it. timeglyph is compiled from where it lies:
 # TIMEGLYPH names a checkout of it (a path from the repository's root; without it, ../shared/docs/src). Needs cargo, and no
@@ -13,17 +14,20 @@ list=${1:-}
 case $list in
 calendar) folder=crates/replay_calendar ;;
 words) folder=crates/replay_words ;;
+composites) folder=crates/composites ;;
 *)
-    echo "usage: compare/record.sh calendar | words" >&2
+    echo "usage: compare/record.sh calendar | words | composites" >&2
     exit 2
     ;;
 esac
 
 timeglyph=${TIMEGLYPH:-../shared/docs/src}
-if ! [ -f "$timeglyph/src/registry.rs" ]; then
-    echo "record.sh: timeglyph cannot be had: there is no $timeglyph/src/registry.rs; no list was written" >&2
-    exit 1
-fi
+for text in src/registry.rs src/compose.rs; do
+    if ! [ -f "$timeglyph/$text" ]; then
+        echo "record.sh: timeglyph cannot be had: there is no $timeglyph/$text; no list was written" >&2
+        exit 1
+    fi
+done
 TIMEGLYPH=$(cd "$timeglyph" && pwd)
 export TIMEGLYPH
 

@@ -1,7 +1,7 @@
 //! Hands the version of jiff that cargo picked to the recorder, as JIFF_VERSION, and has it compile timeglyph's
-//! src/registry.rs from where that lies: TIMEGLYPH is the absolute path of a checkout.
+//! src/registry.rs and src/compose.rs from where they lie: TIMEGLYPH is the absolute path of a checkout.
 
-use std::path::{Path, PathBuf};
+use std::path::Path;
 use std::{env, fs};
 
 fn main() {
@@ -9,11 +9,11 @@ fn main() {
     println!("cargo:rustc-env=JIFF_VERSION={}", jiff_version());
 
     println!("cargo:rerun-if-env-changed=TIMEGLYPH");
-    let registry = registry();
-    println!("cargo:rerun-if-changed={}", registry.display());
+    // src/compose.rs asks for this feature, which stays off.
+    println!("cargo:rustc-check-cfg=cfg(feature, values(\"leap\"))");
     let out = env::var("OUT_DIR").expect("cargo sets OUT_DIR");
-    let module = format!("#[path = {registry:?}]\nmod registry;\n");
-    fs::write(Path::new(&out).join("registry.rs"), module).expect("OUT_DIR can be written");
+    let modules = module("registry") + &module("compose");
+    fs::write(Path::new(&out).join("timeglyph.rs"), modules).expect("OUT_DIR can be written");
 }
 
 fn jiff_version() -> String {
@@ -28,7 +28,10 @@ fn jiff_version() -> String {
         .to_string()
 }
 
-fn registry() -> PathBuf {
+/// The text that has a module of timeglyph compiled from where it lies. Not all that is in it is asked.
+fn module(name: &str) -> String {
     let timeglyph = env::var("TIMEGLYPH").expect("compare/record.sh sets TIMEGLYPH");
-    Path::new(&timeglyph).join("src/registry.rs")
+    let path = Path::new(&timeglyph).join(format!("src/{name}.rs"));
+    println!("cargo:rerun-if-changed={}", path.display());
+    format!("#[allow(dead_code)]\n#[path = {path:?}]\nmod {name};\n")
 }

@@ -2,14 +2,15 @@
 //! FOLDER/stdout, line for line, and says what it wrote.
 
 mod calendar;
+mod composites;
 mod splitmix;
 #[path = "../stand_in/timeglyph.rs"]
 mod timeglyph;
 mod words;
 
-// `mod registry`, the Rust's own text, and what it looks for in the root of its crate.
-include!(concat!(env!("OUT_DIR"), "/registry.rs"));
-use timeglyph::{ChronoError, Format, PackedCodec, PosixNs};
+// `mod registry` and `mod compose`, the Rust's own text, and what they look for in the root of their crate.
+include!(concat!(env!("OUT_DIR"), "/timeglyph.rs"));
+use timeglyph::{format, ChronoError, Format, PackedCodec, PosixNs, Unit};
 
 use std::collections::BTreeMap;
 use std::path::Path;
@@ -42,6 +43,7 @@ fn main() {
     let (seed, parts) = match list.as_str() {
         "calendar" => (calendar::SEED, calendar::list()),
         "words" => (words::SEED, words::list()),
+        "composites" => (composites::SEED, composites::list()),
         _ => usage(),
     };
     if let Err(error) = write(Path::new(folder), &parts) {
@@ -59,7 +61,7 @@ fn main() {
 }
 
 fn usage() -> ! {
-    eprintln!("usage: record calendar | words FOLDER");
+    eprintln!("usage: record calendar | words | composites FOLDER");
     process::exit(2)
 }
 

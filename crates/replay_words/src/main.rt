@@ -9,67 +9,57 @@
 mod answers;
 mod questions;
 
-ghost use Prim.Native.Nat.{_<_};
 use crate::questions::answer;
 use libc::STDIN_FILENO;
+use lines::Place;
+use lines::byte_at;
+use lines::first;
+use lines::keep;
+use lines::turns_left;
 
-// The first n bytes of s: all of it where it has fewer.
-fn first(s: &[u8], n: usize) -> &[u8] {
-    if s.len() < n {
-        return s;
-    }
-    &s[..n]
-}
-
-// One byte of input: answers how many bytes of the unfinished line are held then, as `feed` and `run` do. What `held` has
-// no room for is dropped: such a line is too long in any case.
+// A byte of a line: answers how many bytes of the line are held then. What `held` has no room for is dropped: such a line
+// is too long in any case.
 fn take_byte(held: &mut [u8], n: usize, b: u8) -> usize {
     if b == b'\n' {
         answer(first(held, n));
         return 0;
     }
-    if n < held.len() {
-        held[n] = b;
-        return n + 1;
-    }
-    n
+    keep(held, n, b)
 }
 
-// A block of input.
-fn feed(held: &mut [u8], n: usize, block: &[u8]) -> usize {
-    let mut len = n;
-    let mut i = 0;
-    while i < block.len() {
-        let b = block[i];
-        len = take_byte(held, len, b);
-        i += 1;
+// A turn takes the block's next byte, and reads the next block where there is none.
+fn turn(held: &mut [u8], block: &mut [u8], place: Place) -> Place {
+    if place.used < place.filled {
+        let n = take_byte(held, place.held, byte_at(block, place.used));
+        return Place {
+            held: n,
+            used: place.used + 1,
+            filled: place.filled,
+        };
     }
-    len
+    let got = libc::read(STDIN_FILENO, block);
+    let k = io::count(got, block);
+    Place {
+        held: place.held,
+        used: 0,
+        filled: k,
+    }
 }
 
-// How many turns are left after one that has read k bytes: none where the input has ended.
-fn turns_left(turns: u64, k: usize) -> u64
-    requires { ⌜ 0 < turns ⌝ }
-    ensures { λ r. ⌜ r < turns ⌝ }
-{
-    if k == 0 {
-        return 0;
-    }
-    turns - 1
-}
-
-// All of the input but a last line that lacks its LF. A proved loop has to end, and nothing says that the input does, so
-// it counts its turns down, from a number that no run uses up.
+// All of the input but a last line that lacks its LF, whose bytes it counts. A proved loop has to end, and nothing says
+// that the input does, so it counts its turns down, from a number that no run uses up.
 fn run(held: &mut [u8], block: &mut [u8]) -> usize {
-    let mut n: usize = 0;
+    let mut place = Place {
+        held: 0,
+        used: 0,
+        filled: 0,
+    };
     let mut turns = u64::MAX;
     while 0 < turns {
-        let got = libc::read(STDIN_FILENO, block);
-        let k = io::count(got, block);
-        n = feed(held, n, &block[..k]);
-        turns = turns_left(turns, k);
+        place = turn(held, block, place);
+        turns = turns_left(turns, place.filled);
     }
-    n
+    place.held
 }
 
 fn main() {

@@ -1,6 +1,5 @@
 -- `replay_words::run` is safe and ends: the buffers keep their lengths, and each turn leaves fewer turns.
 -- Assumes nothing.
-use borrow.Author.Needs.{needs}
 use mathlib.Core.Path.{_≡_}
 use native.Mathlib.Omega.{arith}
 use lib.ListN.{length}
@@ -8,35 +7,23 @@ use Rattle.replay_words.proofs.run.Statement.{statement}
 use Rattle.replay_words.proofs.run.Tie as tie
 
 abbrev Inv-loop : tie.InvT-loop
-Inv-loop held₀ block₀ n₀ turns₀ held block n turns =
+Inv-loop held₀ block₀ place₀ turns₀ held block place turns =
     (length held ≡ length held₀) × (length block ≡ length block₀)
 
 abbrev μ-loop : tie.MeasureT-loop
-μ-loop held₀ block₀ n₀ turns₀ held block n turns = turns
+μ-loop held₀ block₀ place₀ turns₀ held block place turns = turns
 
 loop-holds : tie.Need-loop-holds Inv-loop μ-loop
 loop-holds c = omega arith
 
-read-requires : tie.Need-read-requires Inv-loop μ-loop
-read-requires c κs = omega arith
-
-count-requires : tie.Need-count-requires Inv-loop μ-loop
-count-requires c κs = omega arith
-
-slice-reshare-prefix-feed : tie.Need-slice-reshare-prefix-feed Inv-loop μ-loop
-slice-reshare-prefix-feed c = search needs
-
-slice-aggregate-feed : tie.Need-slice-aggregate-feed Inv-loop μ-loop
-slice-aggregate-feed c = search needs
-
-feed-requires : tie.Need-feed-requires Inv-loop μ-loop
-feed-requires c κs = omega arith
+turn-requires : tie.Need-turn-requires Inv-loop μ-loop
+turn-requires c κs = omega arith
 
 turns-left-requires : tie.Need-turns-left-requires Inv-loop μ-loop
-turns-left-requires c κs = search needs
+turns-left-requires c κs = omega arith
 
 loop-less : tie.Need-loop-less Inv-loop μ-loop
-loop-less c = search needs
+loop-less c = omega arith
 
 loop-again : tie.Need-loop-again Inv-loop μ-loop
 loop-again c = omega arith
@@ -57,11 +44,7 @@ run-spec =
     Inv-loop
     μ-loop
     loop-holds
-    read-requires
-    count-requires
-    slice-reshare-prefix-feed
-    slice-aggregate-feed
-    feed-requires
+    turn-requires
     turns-left-requires
     loop-less
     loop-again

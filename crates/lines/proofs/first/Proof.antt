@@ -1,12 +1,13 @@
--- `replay_calendar::first` is safe: where s has n bytes, the part is as long as it says. Assumes nothing.
+-- `lines::first` meets its contract: n bytes are all of s where it has no more. Assumes nothing.
 use borrow.Author.Needs.{needs}
 use mathlib.Core.Path.{sym}
-use lib.Seq.{length-take-le}
-use Rattle.replay_calendar.proofs.first.Statement.{statement}
-use Rattle.replay_calendar.proofs.first.Tie as tie
+use native.Mathlib.Omega.{arith}
+use lib.Seq.{length-take-le, take-all}
+use Rattle.lines.proofs.first.Statement.{statement}
+use Rattle.lines.proofs.first.Tie as tie
 
 returns : tie.Need-returns
-returns c = search needs
+returns c = sym (take-all (c .before .args .n) (c .before .args .s .now) (omega arith))
 
 slice-aggregate-result : tie.Need-slice-aggregate-result
 slice-aggregate-result c = sym (length-take-le _ _ (c .before .if1 .left))

@@ -1,0 +1,80 @@
+// Answers questions on the composites: a line of standard input to a line of standard output.
+//
+//   f LOW HIGH        the instant of a FILETIME's halves, as SECONDS NANOS, or `refused N`
+//   v HIGH LOW        of microseconds in two signed halves
+//   u SECONDS NANOS   of seconds and nanoseconds, which may carry
+//   o HEX             of an Oracle DATE
+//   c HEX             of a CP56Time2a
+//   t HEX             of a UDF timestamp
+//
+// HEX is the stamp's bytes, of any number, as pairs of lower-case hex digits. A line that asks nothing is `bad line`, and so
+// are one with a number that its call's type can't hold and one of more than 64 bytes. The last line may lack its LF.
+//
+// Nothing is proved here of what is written: the program is safe, ends, and is run on a list of recorded answers.
+mod answers;
+mod hex;
+mod numbers;
+mod questions;
+mod stamps;
+
+use crate::questions::answer;
+use libc::STDIN_FILENO;
+use lines::Place;
+use lines::byte_at;
+use lines::first;
+use lines::keep;
+use lines::turns_left;
+
+// A byte of a line: answers how many bytes of the line are held then. What `held` has no room for is dropped: such a line
+// is too long in any case.
+fn take_byte(held: &mut [u8], n: usize, b: u8) -> usize {
+    if b == b'\n' {
+        answer(first(held, n));
+        return 0;
+    }
+    keep(held, n, b)
+}
+
+// A turn takes the block's next byte, and reads the next block where there is none.
+fn turn(held: &mut [u8], block: &mut [u8], place: Place) -> Place {
+    if place.used < place.filled {
+        let n = take_byte(held, place.held, byte_at(block, place.used));
+        return Place {
+            held: n,
+            used: place.used + 1,
+            filled: place.filled,
+        };
+    }
+    let got = libc::read(STDIN_FILENO, block);
+    let k = io::count(got, block);
+    Place {
+        held: place.held,
+        used: 0,
+        filled: k,
+    }
+}
+
+// All of the input but a last line that lacks its LF, whose bytes it counts. A proved loop has to end, and nothing says
+// that the input does, so it counts its turns down, from a number that no run uses up.
+fn run(held: &mut [u8], block: &mut [u8]) -> usize {
+    let mut place = Place {
+        held: 0,
+        used: 0,
+        filled: 0,
+    };
+    let mut turns = u64::MAX;
+    while 0 < turns {
+        place = turn(held, block, place);
+        turns = turns_left(turns, place.filled);
+    }
+    place.held
+}
+
+fn main() {
+    let mut held = io::buffer();
+    let mut block = io::buffer();
+    let n = run(&mut held, &mut block);
+    if 0 < n {
+        answer(first(&held, n));
+    }
+}

@@ -1,0 +1,25 @@
+-- `lines::turns_left` meets its contract. Assumes nothing.
+use borrow.Author.Needs.{needs}
+use borrow.Author.Tests.{ne-eqb}
+use native.Mathlib.Omega.{arith}
+use Rattle.lines.specs.Lines.{left}
+use Rattle.lines.proofs.turns_left.Statement.{statement}
+use Rattle.lines.proofs.turns_left.Tie as tie
+
+returns : tie.Need-returns
+unfolding left
+returns c = (rw (c .if1 .taken), omega arith)
+
+returns-2 : tie.Need-returns-2
+unfolding left
+returns-2 c = (simp (ne-eqb _ _ (c .before .if1 .left)) (omega arith), omega arith)
+
+sub-result : tie.Need-sub-result
+sub-result c = search needs
+
+returns-3 : tie.Need-returns-3
+unfolding left
+returns-3 c = (simp (ne-eqb _ _ (c .before .if1 .left)), omega arith)
+
+pub turns-left-spec : {M : Type 1} → statement M
+turns-left-spec = tie.close (tie.spec returns returns-2 sub-result returns-3)
