@@ -8,8 +8,8 @@ mod random;
 
 pub use random::SEED;
 
+use crate::lists::{part, Line, Part, NANOSECONDS_PER_SECOND};
 use crate::splitmix::SplitMix;
-use crate::{Line, Part};
 use jiff::civil::DateTime;
 use jiff::tz::{Offset, TimeZone};
 use jiff::Timestamp;
@@ -22,8 +22,6 @@ const OUTSIDE_WINDOW: &str = "refused 6";
 pub const WINDOW_FIRST: i64 = -377_705_023_201;
 pub const WINDOW_LAST: i64 = 253_402_207_200;
 
-const NANOSECONDS_PER_SECOND: i128 = 1_000_000_000;
-
 /// Civil fields as this project's calendar takes them: wider than jiff's.
 #[derive(Clone, Copy)]
 pub struct Fields {
@@ -33,6 +31,20 @@ pub struct Fields {
     pub hour: u64,
     pub minute: u64,
     pub second: u64,
+}
+
+impl Fields {
+    /// From the year down.
+    pub fn numbers(&self) -> [i64; 6] {
+        [
+            self.year,
+            self.month as i64,
+            self.day as i64,
+            self.hour as i64,
+            self.minute as i64,
+            self.second as i64,
+        ]
+    }
 }
 
 impl fmt::Display for Fields {
@@ -50,9 +62,9 @@ pub enum Question {
 pub fn list() -> Vec<Part> {
     let mut numbers = SplitMix::new(SEED);
     vec![
-        part("boundaries", boundaries::questions()),
-        part("random seconds", random::seconds(&mut numbers)),
-        part("random fields", random::fields(&mut numbers)),
+        part("boundaries", boundaries::questions(), line),
+        part("random seconds", random::seconds(&mut numbers), line),
+        part("random fields", random::fields(&mut numbers), line),
     ]
 }
 
@@ -61,13 +73,6 @@ pub fn jiff_tests_its_window() -> bool {
     let before = Timestamp::MIN.as_nanosecond() - 1;
     let after = Timestamp::MAX.as_nanosecond() + 1;
     Timestamp::from_nanosecond(before).is_err() && Timestamp::from_nanosecond(after).is_err()
-}
-
-fn part(name: &'static str, questions: Vec<Question>) -> Part {
-    Part {
-        name,
-        lines: questions.iter().map(line).collect(),
-    }
 }
 
 fn line(question: &Question) -> Line {

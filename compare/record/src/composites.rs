@@ -24,14 +24,11 @@ mod written;
 
 pub use random::SEED;
 
+use crate::lists::{self, instant, once, part, Line, Part};
 use crate::splitmix::SplitMix;
-use crate::{Line, Part, PosixNs};
 use rules::Refused;
-use std::collections::HashSet;
 use std::fmt;
 use written::Written;
-
-const NANOSECONDS_PER_SECOND: i128 = 1_000_000_000;
 
 /// Numbers are as wide as a line's, and a stamp has any length, so that they need not be good.
 #[derive(Clone, PartialEq, Eq, Hash)]
@@ -80,51 +77,31 @@ pub fn stamp(written: Written, bytes: &[u8]) -> Question {
 pub fn list() -> Vec<Part> {
     let mut numbers = SplitMix::new(SEED);
     vec![
-        stamps(),
-        part("bad lines", bad_lines::questions()),
+        lists::stamps(stamps::stamps(), line),
+        part("bad lines", bad_lines::questions(), line),
         part(
             "boundaries of numbers",
             once(number_boundaries::questions()),
+            line,
         ),
         part(
             "boundaries of stamps",
             once(each(stamp_boundaries::questions)),
+            line,
         ),
-        part("random numbers", random::numbers(&mut numbers)),
-        part("good stamps", each(|w| random::good(w, &mut numbers))),
-        part("damaged stamps", each(|w| random::damaged(w, &mut numbers))),
+        part("random numbers", random::numbers(&mut numbers), line),
+        part("good stamps", each(|w| random::good(w, &mut numbers)), line),
+        part(
+            "damaged stamps",
+            each(|w| random::damaged(w, &mut numbers)),
+            line,
+        ),
     ]
-}
-
-/// Document 01's stamps. Stops where the Rust answers something else than the document.
-fn stamps() -> Part {
-    let (questions, answers): (Vec<_>, Vec<_>) = stamps::stamps().into_iter().unzip();
-    let part = part("stamps of document 01", questions);
-    for (line, answer) in part.lines.iter().zip(answers) {
-        assert_eq!(line.answer, answer, "document 01 on {}", line.question);
-    }
-    part
-}
-
-fn part(name: &'static str, questions: Vec<Question>) -> Part {
-    Part {
-        name,
-        lines: questions.iter().map(line).collect(),
-    }
 }
 
 /// The questions on each kind of byte stamp.
 fn each(questions: impl FnMut(Written) -> Vec<Question>) -> Vec<Question> {
     Written::ALL.into_iter().flat_map(questions).collect()
-}
-
-/// Without those that came before.
-fn once(questions: Vec<Question>) -> Vec<Question> {
-    let mut seen = HashSet::new();
-    questions
-        .into_iter()
-        .filter(|question| seen.insert(question.clone()))
-        .collect()
 }
 
 fn line(question: &Question) -> Line {
@@ -136,10 +113,4 @@ fn line(question: &Question) -> Line {
             Err(Refused::Number(number)) => format!("refused {number}"),
         },
     }
-}
-
-fn instant(count: &PosixNs) -> String {
-    let seconds = count.0.div_euclid(NANOSECONDS_PER_SECOND);
-    let nanos = count.0.rem_euclid(NANOSECONDS_PER_SECOND);
-    format!("{seconds} {nanos}")
 }

@@ -3,6 +3,7 @@
 
 mod calendar;
 mod composites;
+mod lists;
 mod splitmix;
 #[path = "../stand_in/timeglyph.rs"]
 mod timeglyph;
@@ -12,24 +13,13 @@ mod words;
 include!(concat!(env!("OUT_DIR"), "/timeglyph.rs"));
 use timeglyph::{format, ChronoError, Format, PackedCodec, PosixNs, Unit};
 
+use lists::{Line, Part};
 use std::collections::BTreeMap;
 use std::path::Path;
 use std::{env, fs, io, process};
 
 /// The longest line that the programs replaying a list read, its LF not counted.
 const LONGEST_LINE: usize = 64;
-
-/// A question and the answer to it, each a line without its LF.
-pub struct Line {
-    pub question: String,
-    pub answer: String,
-}
-
-/// A run of lines made in the same way.
-pub struct Part {
-    pub name: &'static str,
-    pub lines: Vec<Line>,
-}
 
 fn main() {
     let arguments: Vec<String> = env::args().skip(1).collect();

@@ -12,15 +12,13 @@ mod word_boundaries;
 
 pub use random::SEED;
 
+use crate::lists::{self, instant, once, part, Line, Part, NANOSECONDS_PER_SECOND};
 use crate::registry::FORMATS;
 use crate::splitmix::SplitMix;
-use crate::{ChronoError, Line, PackedCodec, Part, PosixNs};
+use crate::{ChronoError, PackedCodec, PosixNs};
 use forensicnomicon::temporal_formats::Encoding;
 use layouts::NUMBERS;
-use std::collections::HashSet;
 use std::fmt;
-
-const NANOSECONDS_PER_SECOND: i128 = 1_000_000_000;
 
 /// The layout number and the nanoseconds are as wide as a line's numbers, so that they need not be good.
 #[derive(Clone, Copy, PartialEq, Eq, Hash)]
@@ -64,37 +62,30 @@ pub fn encode(layout: i64, seconds: i64, nanos: i64) -> Question {
 pub fn list() -> Vec<Part> {
     let mut numbers = SplitMix::new(SEED);
     vec![
-        stamps(),
-        part("numbers outside", word_boundaries::numbers_outside()),
+        lists::stamps(stamps::stamps(), line),
+        part("numbers outside", word_boundaries::numbers_outside(), line),
         part(
             "boundaries of words",
             once(each(word_boundaries::questions)),
+            line,
         ),
         part(
             "boundaries of instants",
             once(each(instant_boundaries::questions)),
+            line,
         ),
-        part("good words", each(|n| random::good(n, &mut numbers))),
-        part("damaged words", each(|n| random::damaged(n, &mut numbers))),
-        part("instants", each(|n| random::instants(n, &mut numbers))),
+        part("good words", each(|n| random::good(n, &mut numbers)), line),
+        part(
+            "damaged words",
+            each(|n| random::damaged(n, &mut numbers)),
+            line,
+        ),
+        part(
+            "instants",
+            each(|n| random::instants(n, &mut numbers)),
+            line,
+        ),
     ]
-}
-
-/// Document 01's stamps. Stops where the Rust answers something else than the document.
-fn stamps() -> Part {
-    let (questions, answers): (Vec<_>, Vec<_>) = stamps::stamps().into_iter().unzip();
-    let part = part("stamps of document 01", questions);
-    for (line, answer) in part.lines.iter().zip(answers) {
-        assert_eq!(line.answer, answer, "document 01 on {}", line.question);
-    }
-    part
-}
-
-fn part(name: &'static str, questions: Vec<Question>) -> Part {
-    Part {
-        name,
-        lines: questions.iter().map(line).collect(),
-    }
 }
 
 /// The questions on each layout, in the order of the numbers.
@@ -102,18 +93,11 @@ fn each(questions: impl FnMut(i64) -> Vec<Question>) -> Vec<Question> {
     NUMBERS.flat_map(questions).collect()
 }
 
-/// Without those that came before.
-fn once(questions: Vec<Question>) -> Vec<Question> {
-    let mut seen = HashSet::new();
-    questions
-        .into_iter()
-        .filter(|&question| seen.insert(question))
-        .collect()
-}
-
 fn line(question: &Question) -> Line {
     let answer = match *question {
-        Question::Decode { layout, word } => rules::decoding(layout, word).map(instant),
+        Question::Decode { layout, word } => {
+            rules::decoding(layout, word).map(|count| instant(&count))
+        }
         Question::Encode {
             layout,
             seconds,
@@ -124,12 +108,6 @@ fn line(question: &Question) -> Line {
         question: question.to_string(),
         answer: answer.unwrap_or_else(|number| format!("refused {number}")),
     }
-}
-
-fn instant(count: PosixNs) -> String {
-    let seconds = count.0.div_euclid(NANOSECONDS_PER_SECOND);
-    let nanos = count.0.rem_euclid(NANOSECONDS_PER_SECOND);
-    format!("{seconds} {nanos}")
 }
 
 /// What the Rust makes of a word.

@@ -68,14 +68,7 @@ fn good_stamp(written: Written, numbers: &mut SplitMix) -> Vec<u8> {
     let seconds = written.seconds();
     let second = numbers.between(*seconds.start(), *seconds.end());
     let fields = fields_of(second).expect("jiff has the window");
-    let mut bytes = written.bytes(&[
-        fields.year,
-        fields.month as i64,
-        fields.day as i64,
-        fields.hour as i64,
-        fields.minute as i64,
-        fields.second as i64,
-    ]);
+    let mut bytes = written.bytes(&fields.numbers());
     match written {
         Written::Oracle => {}
         Written::Cp56 => {

@@ -12,7 +12,8 @@
 //! The Rust's error has to be of the right kind too: `Render` is jiff's own refusal, for 3, and `OutOfRange` is for 2.
 
 use super::written::Written;
-use super::{Question, NANOSECONDS_PER_SECOND};
+use super::Question;
+use crate::lists::NANOSECONDS_PER_SECOND;
 use crate::{compose, ChronoError, PosixNs};
 use std::process;
 

@@ -64,14 +64,7 @@ fn good_day(numbers: &mut SplitMix) -> i64 {
 fn good_civil_word(number: i64, numbers: &mut SplitMix) -> i64 {
     let layout = Layout::of(number);
     let fields = fields_of(good_second(number, numbers)).expect("jiff has the encoders' years");
-    let word = layout.word(&[
-        fields.year,
-        fields.month as i64,
-        fields.day as i64,
-        fields.hour as i64,
-        fields.minute as i64,
-        fields.second as i64,
-    ]);
+    let word = layout.word(&fields.numbers());
     let extra = match number {
         14 => numbers.below(10) << 4 | numbers.below(16),
         _ => numbers.below(layout.most_extra() + 1),

@@ -21,8 +21,9 @@
 //! codec's, for the others.
 
 use super::layouts::{Layout, NUMBERS};
-use super::{decode, encode, rust_decodes, rust_encodes, Question, NANOSECONDS_PER_SECOND};
+use super::{decode, encode, rust_decodes, rust_encodes, Question};
 use crate::calendar::{fields_of, WINDOW_FIRST, WINDOW_LAST};
+use crate::lists::NANOSECONDS_PER_SECOND;
 use crate::{ChronoError, PosixNs};
 use std::process;
 
