@@ -1,4 +1,4 @@
--- What a stamp's length, its civil time and its parts make of its answer.
+-- What a stamp's length and its parts make of its answer.
 use mathlib.Core.Path.{_≡_, sym, ap, _∙_}
 use mathlib.Core.List.{List}
 use Prim.Native.Nat.{ℕ, zero, suc, _+_, _*_, _%_, _^_, _≤_, _<_}
@@ -11,28 +11,20 @@ use mir.Syntax.{w64}
 use mir.Val.{SFits}
 use borrow.Author.Tests.{eq-eqb, ne-eqb}
 use Rattle.refusal.specs.Answers.{Answer, refused}
-use Rattle.refusal.proofs.Answers.{failed}
 use Rattle.signed.specs.Extend.{twos, lowSigned}
 use Rattle.signed.proofs.Differences.{minus, times-plus}
 use Rattle.signed.proofs.Extend.{lower-half, upper-half}
-use Rattle.civil.specs.Answers.{secondsFor}
-use Rattle.civil.specs.Times.{good, secondsOf}
-use Rattle.civil.specs.declared.times.Civil.{Civil}
 use Rattle.civil.specs.declared.instants.Instant.{Instant}
 use Rattle.registry.proofs.Sizes.{sum, times, sum-fits}
 use Rattle.compose.specs.Stamps.{ofLength}
 
--- ---- length and civil time
+-- ---- length
 
 pub wrong-length : (n : ℕ) (b : List ℕ) (x : Answer Instant) → (length b ≡ n → ⊥) → ofLength n b x ≡ refused 10
 wrong-length n b x h = rw (ne-eqb (length b) n h)
 
 pub right-length : (n : ℕ) (b : List ℕ) (x : Answer Instant) → length b ≡ n → ofLength n b x ≡ x
 right-length n b x e = rw (eq-eqb (length b) n e)
-
--- fields that are refused are refused under 3
-pub no-seconds : (c : Civil) {n : ℕ} → refused n ≡ secondsFor c → secondsFor c ≡ refused 3
-no-seconds c {n} e = rw (failed (good c) (secondsOf c) 3 n e)
 
 -- ---- the year of an Oracle DATE
 

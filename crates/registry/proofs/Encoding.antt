@@ -1,23 +1,12 @@
--- What the calendar's answer makes of the answer about an instant.
+-- What the nanoseconds of an instant make of the answer about it.
 use mathlib.Core.Path.{_≡_}
-use Prim.Native.Nat.{ℕ}
+use Prim.Native.Nat.{_<_}
 use lib.IntN.{ℤ}
-use Rattle.refusal.specs.Answers.{gives, refused}
-use Rattle.refusal.proofs.Answers.{failed, held}
-use Rattle.civil.specs.Answers.{fieldsFor}
-use Rattle.civil.specs.Times.{inWindow, fieldsAt}
-use Rattle.civil.specs.Promises.{Ranged}
-use Rattle.civil.specs.declared.times.Civil.{Civil}
-use Rattle.civil.proofs.Promises.{field-ranges}
-use Rattle.registry.specs.Words.{writeFields}
-use Rattle.registry.specs.declared.layouts.Layout.{Layout}
+use borrow.Author.Tests.{lt-leb}
+use Rattle.refusal.specs.Answers.{Answer, refused}
+use Rattle.civil.specs.declared.instants.Instant.{Instant}
+use Rattle.registry.specs.Words.{withNanos}
 
--- seconds without fields are refused under 6
-pub no-fields : (l : Layout) (s : ℤ) {n : ℕ} → refused n ≡ fieldsFor s → writeFields l (fieldsFor s) ≡ refused 6
-no-fields l s {n} e = rw (failed (inWindow s) (fieldsAt s) 6 n e)
-
--- fields that are given are in their ranges
-pub fields-ranged : (s : ℤ) {c : Civil} → gives c ≡ fieldsFor s → Ranged c
-fields-ranged s {c} e =
-    let h = held (inWindow s) c (fieldsAt s) 6 e in
-    rw (h .1) (field-ranges s (h .0))
+-- above 999,999,999 they are refused under 9, whatever the rest would answer
+pub no-nanos : (t : Instant) (x : Answer ℤ) → 999999999 < t .nanos → withNanos t x ≡ refused 9
+no-nanos t x h = rw (lt-leb (t .nanos) 999999999 h)

@@ -6,12 +6,10 @@ use lib.Dec.{ltb}
 use lib.IntN.{ℤ}
 use lib.Signed.{mag}
 use Rattle.refusal.specs.Answers.{Answer, gives, refused}
-use Rattle.refusal.proofs.Answers.{clash, held}
-use Rattle.civil.specs.Times.{good, secondsOf}
+use Rattle.refusal.proofs.Answers.{clash}
 use Rattle.civil.specs.Answers.{secondsFor}
-use Rattle.civil.specs.declared.times.Civil.{Civil}
 use Rattle.civil.specs.declared.instants.Instant.{Instant}
-use Rattle.civil.proofs.Promises.{its-window, window-size}
+use Rattle.civil.proofs.Answers.{small-seconds}
 use Rattle.registry.specs.Orders.{ordered}
 use Rattle.registry.specs.Reading.{fieldsIn}
 use Rattle.registry.specs.Words.{atSecond, fieldsDecode}
@@ -26,13 +24,8 @@ its-seconds t true (gives s) e = let r : t ≡ record { seconds = s; nanos = 0 }
 its-seconds t true (refused n) e = absurd (clash n t (gives t) e (λ i. gives t))
 its-seconds t false x e = absurd (clash 2 t (gives t) e (λ i. gives t))
 
-pub small-time : (c : Civil) {s : ℤ} → gives s ≡ secondsFor c → mag s < 2 ^ 39
-small-time c {s} e =
-    let h = held (good c) s (secondsOf c) 3 e in
-    rw (h .1) (window-size (secondsOf c) (its-window c (h .0)))
-
 pub small : (l : Layout) (w : ℕ) {t : Instant} → gives t ≡ fieldsDecode l w → mag (t .seconds) < 2 ^ 39
 unfolding fieldsDecode
 small l w {t} e =
     let p = ordered (l .order) w in
-    small-time (fieldsIn l p) (its-seconds t (ltb p (l .words)) (secondsFor (fieldsIn l p)) e)
+    small-seconds (fieldsIn l p) (its-seconds t (ltb p (l .words)) (secondsFor (fieldsIn l p)) e)

@@ -1,6 +1,5 @@
 pub mod Powers
 pub mod Values
-pub mod Decoding
 pub mod Packing
 pub mod Sizes
 pub mod Instants

@@ -8,7 +8,7 @@ use lib.IntN.{ℤ, pos, negsuc, _+ℤ_, _-ℤ_, +ℤ-assoc}
 use lib.Signed.{ltZ}
 use mir.Syntax.{w64}
 use mir.Val.{SFits}
-use borrow.Author.Tests.{lt-ltb, le-ltb, le-leb, lt-leb, ltb-true}
+use borrow.Author.Tests.{lt-ltb, le-ltb, le-leb, ltb-true}
 use Rattle.refusal.specs.Answers.{gives, refused}
 use Rattle.signed.proofs.Differences.{sub-lt, raised, raise, raised-high}
 use Rattle.signed.proofs.Tests.{test-ge}
@@ -51,10 +51,6 @@ module _ (z : ℤ) (l : ltZ z (negsuc 1770359294) ≡ false) (h : ltZ (pos 25246
 
   pub count-small : raised 1770359295 z < 2 ^ 32
   count-small = omega (arith, raised-high 1770359295 z (test-ge l) (omega arith) (test-ge h))
-
-pub no-nanos : (t : Instant) → 999999999 < t .nanos → nokiaEncode t ≡ refused 9
-unfolding nokiaEncode
-no-nanos t h = rw (lt-leb (t .nanos) 999999999 h)
 
 module _ (t : Instant) (n : t .nanos ≤ 999999999) where
   by-count : nokiaEncode t ≡ nokiaWord (t .seconds +ℤ pos 1770359295)

@@ -10,7 +10,7 @@ use lib.IntN.{ℤ, pos, negsuc, _+ℤ_, _*ℤ_}
 use lib.Signed.{mag, ltZ, leZ}
 use mir.Syntax.{w64}
 use mir.Val.{SFits}
-use borrow.Author.Tests.{lt-ltb, le-ltb, le-leb, lt-leb}
+use borrow.Author.Tests.{lt-ltb, le-ltb, le-leb}
 use Rattle.refusal.specs.Answers.{gives, refused}
 use Rattle.signed.specs.Floor.{floorDiv, floorRem}
 use Rattle.signed.specs.Extend.{twos}
@@ -93,10 +93,6 @@ pub since-1900 : (t : Instant) → t .nanos ≤ 999999999 →
     sqlEncode t ≡ rolled (floorDiv (t .seconds) 86400 +ℤ pos 25567) (nearestTick (floorRem (t .seconds) 86400 * 1000000000 + t .nanos))
 unfolding sqlEncode sqlWord
 since-1900 t h = let e = shifted (t .seconds) 25567 86400 (omega arith) in rw (le-leb (t .nanos) 999999999 h, e .0, e .1)
-
-pub no-nanos : (t : Instant) → 999999999 < t .nanos → sqlEncode t ≡ refused 9
-unfolding sqlEncode
-no-nanos t h = rw (lt-leb (t .nanos) 999999999 h)
 
 -- the days of seconds of 64 bits are few
 pub days-small : (s : ℤ) → SFits w64 s → mag (floorDiv s 86400) < 2 ^ 47

@@ -4,9 +4,10 @@ use mathlib.Core.Path.{sym, ap, _∙_}
 use mir.Syntax.{w64}
 use mir.Facts.{toZ-ofZ}
 use Rattle.civil.specs.Answers.{readSeconds, secondsFor}
+use Rattle.civil.proofs.Answers.{no-seconds}
 use Rattle.registry.proofs.Instants.{of-parts}
 use Rattle.compose.specs.Stamps.{at, oracleFields, oracleDate}
-use Rattle.compose.proofs.Parts.{wrong-length, right-length, no-seconds}
+use Rattle.compose.proofs.Parts.{wrong-length, right-length}
 use Rattle.compose.proofs.stamps.oracle_date.Statement.{statement}
 use Rattle.compose.proofs.stamps.oracle_date.Tie as tie
 
@@ -14,7 +15,7 @@ returns : tie.Need-returns
 unfolding oracleDate
 returns c =
     let b = c .before .before .args .stamp .now in
-    sym (wrong-length 7 b (at (0) (secondsFor (oracleFields b))) (c .if1 .taken))
+    sym (wrong-length 7 b (at 0 (secondsFor (oracleFields b))) (c .if1 .taken))
 
 oracle-seconds-requires : tie.Need-oracle-seconds-requires
 oracle-seconds-requires c κs = search needs
@@ -31,7 +32,7 @@ returns-2 c =
     let f = c .before .before in
     let b = f .before .before .before .args .stamp .now in
     let e = sym (ap readSeconds (c .enum-told .given .1)) ∙ f .oracle-seconds .ensures in
-    sym (right-length 7 b (at (0) (secondsFor (oracleFields b))) (f .before .if1 .left) ∙ ap (at (0)) (no-seconds (oracleFields b) e))
+    sym (right-length 7 b (at 0 (secondsFor (oracleFields b))) (f .before .if1 .left) ∙ ap (at 0) (no-seconds (oracleFields b) e))
 
 at-second-requires : tie.Need-at-second-requires
 at-second-requires c κs = search needs

@@ -9,9 +9,10 @@ use mir.Facts.{toZ-ofZ, toZ-pos}
 use Rattle.refusal.specs.Answers.{Answer, gives}
 use Rattle.civil.specs.declared.instants.Instant.{Instant}
 use Rattle.civil.specs.Answers.{readSeconds, secondsFor}
-use Rattle.registry.proofs.Instants.{of-parts, small-time}
+use Rattle.civil.proofs.Answers.{no-seconds, small-seconds}
+use Rattle.registry.proofs.Instants.{of-parts}
 use Rattle.compose.specs.Stamps.{word, at, moved, udfFields, udfMinutes, udfParts, udfStamp}
-use Rattle.compose.proofs.Parts.{wrong-length, right-length, no-seconds, zone-fits, carry-fits, moved-fits}
+use Rattle.compose.proofs.Parts.{wrong-length, right-length, zone-fits, carry-fits, moved-fits}
 use native.Mathlib.Omega.{arith}
 use Rattle.compose.proofs.stamps.udf.Statement.{statement}
 use Rattle.compose.proofs.stamps.udf.Tie as tie
@@ -69,7 +70,7 @@ fits c =
     let s = k .found .given .0 .0 in
     let m = c .udf-minutes .result in
     let q = c .before .before .udf-parts .result / 1000000000 in
-    let hs = small-time (udfFields (k .before .before .before .before .before .args .stamp .now)) (said c) in
+    let hs = small-seconds (udfFields (k .before .before .before .before .before .args .stamp .now)) (said c) in
     let hm = c .udf-minutes .ensures .1 in
     let hq : q < 3 = omega (arith, c .before .before .udf-parts .ensures .1) in
     (zone-fits s m q hs hm hq, carry-fits s m q hs hm hq, moved-fits s m q hs hm hq)

@@ -4,7 +4,7 @@ use mathlib.Core.Path.{_≡_, sym, ap, _∙_}
 use mathlib.Core.Bool.{false}
 use Prim.Native.Nat.{_<_, _^_}
 use native.Mathlib.Omega.{arith}
-use lib.IntN.{ℤ, pos, negsuc, natAbs, _+ℤ_}
+use lib.IntN.{ℤ, pos, negsuc, natAbs, _+ℤ_, _-ℤ_}
 use lib.Signed.{ltZ}
 use mir.Syntax.{w64}
 use mir.Val.{toZ, ofZ}
@@ -13,12 +13,15 @@ use Rattle.refusal.specs.Answers.{gives}
 use Rattle.signed.proofs.Differences.{raised}
 use Rattle.signed.proofs.Machine.{read-nat, cast-nat}
 use Rattle.registry.specs.Orders.{reversed}
-use Rattle.registry.proofs.NokiaSeconds.{reversed-small, count, count-small, no-nanos, early, late, in-range}
+use Rattle.registry.specs.Words.{nokiaWord, nokiaEncode}
+use Rattle.registry.proofs.Encoding.{no-nanos}
+use Rattle.registry.proofs.NokiaSeconds.{reversed-small, count, count-small, early, late, in-range}
 use Rattle.registry.proofs.nokia.encode_nokia.Statement.{statement}
 use Rattle.registry.proofs.nokia.encode_nokia.Tie as tie
 
 returns : tie.Need-returns
-returns c = sym (no-nanos (c .before .before .args .t) (c .if1 .taken))
+unfolding nokiaEncode
+returns c = let t = c .before .before .args .t in sym (no-nanos t (nokiaWord (t .seconds +ℤ pos 4294967295 -ℤ pos 2524608000)) (c .if1 .taken))
 
 -- the seconds, as the machine reads them back
 seconds : (c : tie.After-struct-told) → let z = c .before .before .before .args .t .seconds in toZ w64 (ofZ w64 z) ≡ z

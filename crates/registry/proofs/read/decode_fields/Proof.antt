@@ -8,7 +8,7 @@ use Rattle.refusal.specs.Answers.{gives}
 use Rattle.civil.specs.Answers.{readSeconds}
 use Rattle.registry.specs.Reading.{fieldsIn}
 use Rattle.registry.specs.Words.{atSecond, fieldsDecode}
-use Rattle.registry.proofs.Decoding.{no-seconds}
+use Rattle.civil.proofs.Answers.{no-seconds}
 use Rattle.registry.proofs.read.decode_fields.Statement.{statement}
 use Rattle.registry.proofs.read.decode_fields.Tie as tie
 
@@ -34,7 +34,7 @@ returns-2 c =
     let f = c .before .before in
     let s = f .before .before .before .before in
     let e = sym (ap readSeconds (c .enum-told .given .1)) ∙ f .seconds-in .ensures in
-    rw (← f .before .before .before .in-order .ensures, lt-ltb _ _ (f .before .if1 .left)) (sym (no-seconds (fieldsIn (s .args .l) (f .before .before .before .in-order .result)) e))
+    rw (← f .before .before .before .in-order .ensures, lt-ltb _ _ (f .before .if1 .left)) (sym (ap atSecond (no-seconds (fieldsIn (s .args .l) (f .before .before .before .in-order .result)) e)))
 
 at-second-requires : tie.Need-at-second-requires
 at-second-requires c κs = search needs

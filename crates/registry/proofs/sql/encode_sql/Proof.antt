@@ -8,13 +8,16 @@ use mir.Syntax.{w64}
 use mir.Val.{SFits, toZ, ofZ}
 use mir.Facts.{toZ-ofZ}
 use Rattle.signed.specs.Floor.{floorDiv, floorRem}
+use Rattle.registry.specs.Words.{sqlWord, sqlEncode}
+use Rattle.registry.proofs.Encoding.{no-nanos}
 use Rattle.registry.proofs.Sizes.{sum, sum-fits}
-use Rattle.registry.proofs.SqlDays.{no-nanos, since-1900, days-small, time-small}
+use Rattle.registry.proofs.SqlDays.{since-1900, days-small, time-small}
 use Rattle.registry.proofs.sql.encode_sql.Statement.{statement}
 use Rattle.registry.proofs.sql.encode_sql.Tie as tie
 
 returns : tie.Need-returns
-returns c = sym (no-nanos (c .before .args .t) (c .if1 .taken))
+unfolding sqlEncode
+returns c = let t = c .before .args .t in sym (no-nanos t (sqlWord (t .seconds +ℤ pos 2208988800) (t .nanos)) (c .if1 .taken))
 
 div-floor-requires : tie.Need-div-floor-requires
 div-floor-requires c κs = search needs

@@ -1,6 +1,6 @@
 -- `encode_fields` meets its contract: the test of the nanoseconds, and the answer about the seconds, taken apart. Assumes nothing.
 use borrow.Author.Needs.{needs}
-use borrow.Author.Tests.{le-leb, lt-leb}
+use borrow.Author.Tests.{le-leb}
 use mathlib.Core.Path.{_≡_, sym, ap, _∙_}
 use mir.Syntax.{w64}
 use mir.Val.{SFits}
@@ -8,13 +8,14 @@ use mir.Facts.{toZ-ofZ}
 use Rattle.refusal.specs.Answers.{gives}
 use Rattle.civil.specs.Answers.{readFields, fieldsFor}
 use Rattle.registry.specs.Words.{writeFields, fieldsEncode}
-use Rattle.registry.proofs.Encoding.{no-fields, fields-ranged}
+use Rattle.civil.proofs.Answers.{no-fields, ranged-fields}
+use Rattle.registry.proofs.Encoding.{no-nanos}
 use Rattle.registry.proofs.write.encode_fields.Statement.{statement}
 use Rattle.registry.proofs.write.encode_fields.Tie as tie
 
 returns : tie.Need-returns
 unfolding fieldsEncode
-returns c = rw (lt-leb (c .before .before .args .t .nanos) 999999999 (c .if1 .taken))
+returns c = let s = c .before .before in sym (no-nanos (s .args .t) (writeFields (s .args .l) (fieldsFor (s .args .t .seconds))) (c .if1 .taken))
 
 fields-of-requires : tie.Need-fields-of-requires
 fields-of-requires c κs = search needs
@@ -40,12 +41,12 @@ returns-2 c =
     let f = c .before .before in
     let s = f .before .before .before .before in
     rw (le-leb (s .args .t .nanos) 999999999 (f .before .before .if1 .left))
-    (sym (no-fields (s .args .l) (s .args .t .seconds) (sym (ap readFields (c .enum-told .given .1)) ∙ answered f)))
+    (sym (ap (writeFields (s .args .l)) (no-fields (s .args .t .seconds) (sym (ap readFields (c .enum-told .given .1)) ∙ answered f))))
 
 write-fields-requires : tie.Need-write-fields-requires
 write-fields-requires c κs =
     let f = c .before .before .before in
-    (f .before .before .before .before .pre, fields-ranged (f .before .before .before .before .args .t .seconds) (given c))
+    (f .before .before .before .before .pre, ranged-fields (f .before .before .before .before .args .t .seconds) (given c))
 
 returns-3 : tie.Need-returns-3
 unfolding fieldsEncode
