@@ -1,5 +1,6 @@
 pub mod Window
 pub mod Days
+pub mod Raised
 pub mod Promises
 pub mod Order
 pub mod Answers

@@ -1,7 +1,11 @@
 // Civil times and seconds.
 ghost use mathlib.Core.Path.{_≡_};
 ghost use Prim.Native.Nat.{_<_, _^_};
+ghost use mathlib.Core.Bool.{true};
+ghost use lib.IntN.{natAbs, pos, _+ℤ_};
 ghost use lib.Signed.{mag};
+ghost use Rattle.signed.specs.Floor.{floorDiv, floorRem};
+ghost use Rattle.civil.specs.Times.{inWindow};
 ghost use Rattle.civil.specs.Answers.{readSeconds, readFields, secondsFor, fieldsFor};
 ghost use Rattle.civil.specs.Parts.{secondsOn, onDate};
 use crate::instants::Instant;
@@ -11,8 +15,6 @@ use gregorian::Day;
 use gregorian::date_of;
 use gregorian::day_of;
 use refusal::Refusal;
-use signed::div_floor;
-use signed::rem_floor;
 
 // A civil time in UTC. Months and days count from 1.
 pub struct Civil {
@@ -112,6 +114,31 @@ pub fn seconds_of(time: Civil) -> Seconds
     )
 }
 
+// Seconds of the window from 1 January -10000 on, which is 4,371,953 whole days before 1970: what is divided below is
+// then never negative, and dividing it rounds the seconds down.
+fn raised(seconds: i64) -> u64
+    requires { ⌜ inWindow seconds ≡ true ⌝ }
+    ensures { λ r. ⌜ (r ≡ natAbs (seconds +ℤ pos 377736739200)) × (r < 2 ^ 40) ⌝ }
+{
+    (seconds + 377736739200) as u64
+}
+
+// The number of the day that some seconds of the window lie in.
+fn day_number(seconds: i64) -> i64
+    requires { ⌜ inWindow seconds ≡ true ⌝ }
+    ensures { λ r. ⌜ r ≡ floorDiv seconds 86400 ⌝ }
+{
+    (raised(seconds) / 86400) as i64 - 4371953
+}
+
+// The seconds that have passed of that day.
+fn passed(seconds: i64) -> u64
+    requires { ⌜ inWindow seconds ≡ true ⌝ }
+    ensures { λ r. ⌜ r ≡ floorRem seconds 86400 ⌝ }
+{
+    raised(seconds) % 86400
+}
+
 // The civil time of some seconds.
 pub fn fields_of(seconds: i64) -> Fields
     ensures { λ r. ⌜ readFields r ≡ fieldsFor seconds ⌝ }
@@ -126,11 +153,11 @@ pub fn fields_of(seconds: i64) -> Fields
             number: Refusal::WINDOW,
         });
     }
-    let found = date_of(div_floor(seconds, 86400));
+    let found = date_of(day_number(seconds));
     let Dated::At(date) = found else {
         return Fields::Refused(Refusal {
             number: Refusal::WINDOW,
         });
     };
-    Fields::At(on_date(date, rem_floor(seconds, 86400)))
+    Fields::At(on_date(date, passed(seconds)))
 }

@@ -1,7 +1,7 @@
 -- The leap rule of a year that is counted from -10000: 400 divides 10000, so it reads the same.
 use mathlib.Core.Path.{_≡_, refl, ap, _∙_}
 use mathlib.Core.Bool.{Bool, true, false, not, _&&_, _||_}
-use Prim.Native.Nat.{ℕ, suc, _-_, _%_, _<_, _≤_}
+use Prim.Native.Nat.{ℕ, zero, suc, _+_, _-_, _*_, _/_, _%_, _<_, _≤_}
 use native.Mathlib.Omega.{arith}
 use native.Mathlib.Decide.{decLt}
 use lib.Dec.{eqb}
@@ -52,9 +52,25 @@ and-true : (x : Bool) → ((x && true) || false) ≡ x
 and-true true = refl
 and-true false = refl
 
+-- of the numbers that 100 divides, 16 divides those that 400 divides
+by-16 : (k r : ℕ) → r < 4 → (400 * k + 100 * r) % 16 ≡ 0 → r ≡ 0
+by-16 k zero h e = refl
+by-16 k (suc zero) h e = absurd (omega arith)
+by-16 k (suc (suc zero)) h e = absurd (omega arith)
+by-16 k (suc (suc (suc zero))) h e = absurd (omega arith)
+by-16 k (suc (suc (suc (suc r)))) h e = absurd (omega arith)
+
+sixteen : (n : ℕ) → n % 100 ≡ 0 → n % 16 ≡ 0 → n % 400 ≡ 0
+sixteen n h e =
+    let m : n ≡ 400 * (n / 400) + 100 * (n % 400 / 100) = omega arith in
+    omega (arith, by-16 (n / 400) (n % 400 / 100) (omega arith) (rw (← m) e))
+
 -- by whether 100 divides n
-pub leap-century : (n : ℕ) → n % 100 ≡ 0 → leap (yearAt n) ≡ eqb (n % 400) 0
-leap-century n h = leap-at n ∙ rw (eq-eqb (n % 100) 0 h) (and-false (eqb (n % 4) 0) (eqb (n % 400) 0))
+pub leap-century : (n : ℕ) → n % 100 ≡ 0 → leap (yearAt n) ≡ eqb (n % 16) 0
+leap-century n h =
+    leap-at n
+    ∙ rw (eq-eqb (n % 100) 0 h) (and-false (eqb (n % 4) 0) (eqb (n % 400) 0))
+    ∙ same-zero (n % 400) (n % 16) (λ e. omega arith) (sixteen n h)
 
 pub leap-other : (n : ℕ) → (n % 100 ≡ 0 → ⊥) → leap (yearAt n) ≡ eqb (n % 4) 0
 leap-other n h = leap-at n ∙ rw (ne-eqb (n % 100) 0 h, ne-eqb (n % 400) 0 (λ e. h (omega arith))) (and-true (eqb (n % 4) 0))

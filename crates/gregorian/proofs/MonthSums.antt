@@ -56,7 +56,7 @@ no-months b = refl
 
 -- the days before a month, in closed form
 abbrev closed : Bool → ℕ → ℕ
-closed b k = (367 * k + 5) / 12 - lackingOf b k
+closed b k = (489 * k + 8) / 16 - lackingOf b k
 
 sums : (b : Bool) → T (each (λ k. eqb (daysOfMonths b k) (closed b k)) 13)
 unfolding daysOfMonths

@@ -34,7 +34,7 @@ pub fn days_before_month(leap: bool, month: u64) -> u64
     requires { ⌜ month ≤ 12 ⌝ }
     ensures { λ r. ⌜ r ≡ daysOfMonths leap month ⌝ }
 {
-    (367 * month + 5) / 12 - lacking(leap, month)
+    (489 * month + 8) / 16 - lacking(leap, month)
 }
 
 // A month, and the days that have passed in it.

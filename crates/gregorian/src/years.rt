@@ -4,12 +4,12 @@ ghost use Prim.Native.Nat.{_≤_, _<_};
 ghost use Rattle.gregorian.specs.Gregorian.{leap, yearAt, daysOfYears};
 ghost use Rattle.gregorian.specs.Parts.{InYear};
 
-// Whether a year is leap.
+// Whether a year is leap. Of the years that 100 divides, 16 divides just those that 400 divides.
 pub fn is_leap(years: u64) -> bool
     ensures { λ r. ⌜ r ≡ leap (yearAt years) ⌝ }
 {
     if years % 100 == 0 {
-        years % 400 == 0
+        years % 16 == 0
     } else {
         years % 4 == 0
     }

@@ -20,8 +20,14 @@ returns c = rw (window-early (c .before .args .seconds) (rw (toZ-ofZ (c .before 
 returns-2 : tie.Need-returns-2
 returns-2 c = rw (window-late (c .before .before .args .seconds) (rw (toZ-ofZ (c .before .before .fits .seconds)) at (c .if2 .taken)))
 
-div-floor-requires : tie.Need-div-floor-requires
-div-floor-requires c κs = search needs
+good : (c : tie.Else2) → inWindow (c .before .before .args .seconds) ≡ true
+good c =
+    let s = c .before .before in
+    let f = toZ-ofZ (s .fits .seconds) in
+    window-good (s .args .seconds) (rw f at (c .before .if1 .left)) (rw f at (c .if2 .left))
+
+day-number-requires : tie.Need-day-number-requires
+day-number-requires c κs = rw (toZ-ofZ (c .before .before .fits .seconds)) (good c)
 
 date-of-requires : tie.Need-date-of-requires
 date-of-requires c κs = search needs
@@ -32,15 +38,9 @@ enum-known-found c = search needs
 enum-told : tie.Need-enum-told
 enum-told c = search needs
 
-good : (c : tie.Else2) → inWindow (c .before .before .args .seconds) ≡ true
-good c =
-    let s = c .before .before in
-    let f = toZ-ofZ (s .fits .seconds) in
-    window-good (s .args .seconds) (rw f at (c .before .if1 .left)) (rw f at (c .if2 .left))
-
 answered : (c : tie.After-date-of) → readDated (c .date-of .result) ≡ dateFor (floorDiv (c .before .before .before .before .args .seconds) 86400)
 answered c =
-    let n = toZ-ofZ {w = w64} (record { sfits = c .before .div-floor .ok }) ∙ (rw (toZ-ofZ (c .before .before .before .before .fits .seconds)) at (c .before .div-floor .ensures)) in
+    let n = toZ-ofZ {w = w64} (record { sfits = c .before .day-number .ok }) ∙ (rw (toZ-ofZ (c .before .before .before .before .fits .seconds)) at (c .before .day-number .ensures)) in
     c .date-of .ensures ∙ ap dateFor n
 
 returns-3 : tie.Need-returns-3
@@ -49,8 +49,9 @@ returns-3 c =
     let e = d .before .before in
     absurd (no-date (e .before .before .args .seconds) (good e) (sym (ap readDated (c .enum-told .given .1)) ∙ answered d))
 
-rem-floor-requires : tie.Need-rem-floor-requires
-rem-floor-requires c κs = search needs
+passed-requires : tie.Need-passed-requires
+passed-requires c κs =
+    let e = c .before .before .before .before .before in rw (toZ-ofZ (e .before .before .fits .seconds)) (good e)
 
 on-date-requires : tie.Need-on-date-requires
 on-date-requires c κs = search needs
@@ -60,7 +61,7 @@ returns-4 c =
     let d = c .before .before .before .before .before in
     let e = d .before .before in
     let s = e .before .before in
-    let t = rw (toZ-ofZ (s .fits .seconds)) at (c .before .rem-floor .ensures) in
+    let t = rw (toZ-ofZ (s .fits .seconds)) at (c .before .passed .ensures) in
     ap gives (c .on-date .ensures ∙ ap (onDate _) t) ∙ some-date (s .args .seconds) (good e) (sym (ap readDated (c .before .before .before .found .given .1)) ∙ answered d)
 
 pub fields-of-spec : {M : Type 1} → statement M
@@ -69,11 +70,11 @@ fields-of-spec =
     (tie.spec
     returns
     returns-2
-    div-floor-requires
+    day-number-requires
     date-of-requires
     enum-known-found
     enum-told
     returns-3
-    rem-floor-requires
+    passed-requires
     on-date-requires
     returns-4)

@@ -23,7 +23,7 @@ sub-result c =
 returns : tie.Need-returns
 returns c =
     let s = c .before in
-    ap (λ n. (367 * s .args .month + 5) / 12 - n) (c .lacking .ensures) ∙ sym (closed-is (s .args .leap) (s .args .month) (omega arith))
+    ap (λ n. (489 * s .args .month + 8) / 16 - n) (c .lacking .ensures) ∙ sym (closed-is (s .args .leap) (s .args .month) (omega arith))
 
 pub days-before-month-spec : {M : Type 1} → statement M
 days-before-month-spec =
