@@ -10,12 +10,12 @@ use Rattle.registry.specs.declared.layouts.Order.the-variants.{Straight, Revers
 -- ---- four bytes
 
 of-bytes : ℕ → ℕ → ℕ → ℕ → ℕ → ℕ
-of-bytes e d c b a = e * 2 ^ 32 + d * 2 ^ 24 + c * 2 ^ 16 + b * 2 ^ 8 + a
+of-bytes e d c b a = d * 2 ^ 24 + c * 2 ^ 16 + b * 2 ^ 8 + a + e * 2 ^ 32
 
 reversed-of : (e d c b a : ℕ) → d < 256 → c < 256 → b < 256 → a < 256 → reversed (of-bytes e d c b a) ≡ of-bytes e a b c d
 unfolding of-bytes reversed
 reversed-of e d c b a hd hc hb ha =
-    let n = e * 2 ^ 32 + d * 2 ^ 24 + c * 2 ^ 16 + b * 2 ^ 8 + a in
+    let n = d * 2 ^ 24 + c * 2 ^ 16 + b * 2 ^ 8 + a + e * 2 ^ 32 in
     let q0 : n / 2 ^ 32 ≡ e = omega arith in
     let q1 : n % 2 ^ 8 ≡ a = omega arith in
     let r2 : n / 2 ^ 8 ≡ e * 2 ^ 24 + d * 2 ^ 16 + c * 2 ^ 8 + b = omega arith in
@@ -47,12 +47,12 @@ reversed-back p =
 -- ---- the two bytes of a year
 
 of-year : ℕ → ℕ → ℕ → ℕ → ℕ
-of-year e h l r = e * 2 ^ 56 + h * 2 ^ 48 + l * 2 ^ 40 + r
+of-year e h l r = h * 2 ^ 48 + l * 2 ^ 40 + r + e * 2 ^ 56
 
 swapped-of : (e h l r : ℕ) → h < 256 → l < 256 → r < 2 ^ 40 → yearSwapped (of-year e h l r) ≡ of-year e l h r
 unfolding of-year yearSwapped
 swapped-of e h l r hh hl hr =
-    let n = e * 2 ^ 56 + h * 2 ^ 48 + l * 2 ^ 40 + r in
+    let n = h * 2 ^ 48 + l * 2 ^ 40 + r + e * 2 ^ 56 in
     let q0 : n / 2 ^ 56 ≡ e = omega arith in
     let q1 : n % 2 ^ 40 ≡ r = omega arith in
     let r2 : n / 2 ^ 40 ≡ e * 2 ^ 16 + h * 2 ^ 8 + l = omega arith in

@@ -1,9 +1,13 @@
 -- The fourteen descriptions keep what reading and writing ask.
+use mathlib.Core.Path.{_≡_, refl}
+use mathlib.Core.Bool.{Bool, true, false}
 use native.Mathlib.Omega.{arith}
 use Rattle.registry.specs.Layouts.{gsm}
 use Rattle.registry.specs.Words.{layoutFor}
-use Rattle.registry.specs.Parts.{Sound, Writable}
+use Rattle.registry.specs.Parts.{Sound, Writable, pairs, pairLayout, layoutOf}
 use Rattle.registry.specs.declared.layouts.Digits.the-variants.{SemiOctets}
+use Rattle.registry.specs.declared.rules.Rule.{Rule}
+use Rattle.registry.specs.declared.rules.Rule.the-variants.{Civil, Gsm, NokiaLe, SqlServer}
 use Rattle.registry.specs.declared.rules.Kind.{Kind}
 use Rattle.registry.specs.declared.rules.Kind.the-variants.{FatDos, ExFat, Dttm, BitDate, BitDec, Bcd, Moto, Symantec, Dvr, Ns40, Ns40Le, LogTime, SemiOctet}
 
@@ -42,3 +46,18 @@ gsm-sound = omega arith
 
 pub gsm-writable : Writable gsm
 gsm-writable = omega arith
+
+-- the two layouts of pairs, by the order of their digits
+pub pair-sound : (b : Bool) → Sound (pairs b) (pairLayout b) × (pairLayout b .digits ≡ pairs b)
+pair-sound false = (omega arith, refl)
+pair-sound true = (omega arith, refl)
+
+pub pair-writable : (b : Bool) → Writable (pairLayout b)
+pair-writable false = writable Bcd
+pair-writable true = writable SemiOctet
+
+pub rule-writable : (r : Rule) → Writable (layoutOf r)
+rule-writable (Civil k) = writable k
+rule-writable Gsm = gsm-writable
+rule-writable NokiaLe = gsm-writable
+rule-writable SqlServer = gsm-writable

@@ -1,18 +1,20 @@
 -- Instants by their parts, and how large the seconds of one are that civil fields give.
-use mathlib.Core.Path.{_≡_, ap}
+use mathlib.Core.Path.{_≡_, sym, ap}
 use mathlib.Core.Bool.{Bool, true, false, cond}
 use Prim.Native.Nat.{ℕ, _<_, _^_}
 use lib.Dec.{ltb}
 use lib.IntN.{ℤ}
 use lib.Signed.{mag}
 use Rattle.refusal.specs.Answers.{Answer, gives, refused}
-use Rattle.refusal.proofs.Answers.{clash}
+use Rattle.refusal.proofs.Answers.{clash, failed, held}
 use Rattle.civil.specs.Answers.{secondsFor}
 use Rattle.civil.specs.declared.instants.Instant.{Instant}
+use Rattle.civil.specs.declared.times.Civil.{Civil}
 use Rattle.civil.proofs.Answers.{small-seconds}
 use Rattle.registry.specs.Orders.{ordered}
 use Rattle.registry.specs.Reading.{fieldsIn}
 use Rattle.registry.specs.Words.{atSecond, fieldsDecode}
+use Rattle.registry.specs.Parts.{readBy}
 use Rattle.registry.specs.declared.layouts.Layout.{Layout}
 
 pub of-parts : {t : Instant} {s : ℤ} {n : ℕ} → (t .seconds ≡ s) × (t .nanos ≡ n) → gives t ≡ gives (record { seconds = s; nanos = n })
@@ -29,3 +31,16 @@ unfolding fieldsDecode
 small l w {t} e =
     let p = ordered (l .order) w in
     small-seconds (fieldsIn l p) (its-seconds t (ltb p (l .words)) (secondsFor (fieldsIn l p)) e)
+
+-- what is decoded, by the fields that are read
+module _ (l : Layout) (w : ℕ) where
+  pub out-of-range : {n : ℕ} → refused n ≡ readBy l w → refused 2 ≡ fieldsDecode l w
+  unfolding fieldsDecode
+  out-of-range {n} e = let p = ordered (l .order) w in rw (failed (ltb p (l .words)) (fieldsIn l p) 2 n e)
+
+  pub of-fields : {c : Civil} → gives c ≡ readBy l w → fieldsDecode l w ≡ atSecond (secondsFor c)
+  unfolding fieldsDecode
+  of-fields {c} e =
+      let p = ordered (l .order) w in
+      let h = held (ltb p (l .words)) c (fieldsIn l p) 2 e in
+      rw (h .0) (ap (λ c. atSecond (secondsFor c)) (sym (h .1)))

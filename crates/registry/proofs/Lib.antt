@@ -9,5 +9,6 @@ pub mod SqlDays
 pub mod Encoding
 pub mod Fourteen
 pub mod RuleNumbers
+pub mod RuleTags
 pub mod Stamps
 pub mod Promises

@@ -1,20 +1,25 @@
 -- What a description's limits say of the numbers that are written: each fits its field, and all together fit the word.
-use mathlib.Core.Path.{_≡_, refl, subst}
-use mathlib.Core.Bool.{Bool, true, false}
+use mathlib.Core.Path.{_≡_, refl, sym, ap, _∙_, subst}
+use mathlib.Core.Bool.{Bool, true, false, cond}
 use Prim.Native.Nat.{ℕ, _+_, _-_, _*_, _/_, _^_, _≤_, _<_}
 use native.Mathlib.Nat.{mul-le-mul, mul-le-mul-right, lt-of-le-of-lt, le-of-lt, le-trans, le-div-iff-mul-le, div-mul-le-self, pow-le-pow-right}
 use native.Mathlib.Omega.{arith}
 use lib.IntN.{ℤ, pos, negsuc, natAbs}
-use lib.Signed.{mag, leZ}
+use lib.Dec.{leb}
+use lib.Signed.{mag}
 use mir.Syntax.{w64}
 use mir.Val.{ofZ}
-use borrow.Author.Tests.{le-leb, lt-leb}
-use Rattle.signed.proofs.Tests.{and-false}
+use borrow.Author.Tests.{lt-leb, leb-true}
+use Rattle.refusal.specs.Answers.{Answer, gives, refused}
+use Rattle.refusal.proofs.Answers.{clash}
+use Rattle.signed.proofs.Tests.{and-false, and-left, and-right}
+use Rattle.civil.specs.Promises.{Ranged}
 use Rattle.civil.specs.declared.times.Civil.{Civil}
 use Rattle.registry.specs.Orders.{reversed, yearSwapped, ordered}
 use Rattle.registry.specs.Reading.{base}
 use Rattle.registry.specs.Writing.{steps, numeral, placed, packed, writes}
-use Rattle.registry.specs.Parts.{Fitting, largest, TwoDigits, Holds, top, Ready, Packing, pairs}
+use Rattle.registry.specs.Words.{writeFields}
+use Rattle.registry.specs.Parts.{Fitting, largest, TwoDigits, Holds, top, Writable, Ready, Packing, pairs, inYears, writeBits, reordered, writeBy}
 use Rattle.registry.specs.declared.layouts.Field.{Field}
 use Rattle.registry.specs.declared.layouts.Layout.{Layout}
 use Rattle.registry.specs.declared.layouts.Digits.{Digits}
@@ -140,17 +145,85 @@ ordered-small YearSwapped p h = let k : p / 2 ^ 56 < 2 ^ 7 = omega arith in omeg
 
 -- ---- the test of the year, on its 64 bits
 
-pub year-early : (l : Layout) (y : ℤ) → ofZ w64 y < l .year .offset → writes l y ≡ false
-year-early l (pos n) h = rw (lt-leb (l .year .offset) n h)
-year-early l (negsuc n) h = refl
+pub years-agree : (l : Layout) (y : ℤ) → mag y < 10000 → l .last ≤ 9999 → inYears l (ofZ w64 y) ≡ writes l y
+years-agree l (pos n) m k = refl
+years-agree l (negsuc n) m k = rw (lt-leb (ofZ w64 (negsuc n)) (l .last) (omega arith)) (and-false (leb (l .year .offset) (ofZ w64 (negsuc n))))
 
-pub year-late : (l : Layout) (y : ℤ) → l .last < ofZ w64 y → writes l y ≡ false
-year-late l (pos n) h = rw (lt-leb n (l .last) h) (and-false (leZ (pos (l .year .offset)) (pos n)))
-year-late l (negsuc n) h = refl
+size : (y : ℤ) (l : ℕ) → mag y < 10000 → l ≤ 9999 → ofZ w64 y ≤ l → natAbs y ≡ ofZ w64 y
+size (pos n) l m k h = refl
+size (negsuc n) l m k h = absurd (omega arith)
 
-pub year-written : (l : Layout) (y : ℤ) → mag y < 10000 → l .last ≤ 9999 → l .year .offset ≤ ofZ w64 y → ofZ w64 y ≤ l .last → (writes l y ≡ true) × (natAbs y ≡ ofZ w64 y)
-year-written l (pos n) m k lo hi = (rw (le-leb (l .year .offset) n lo) (le-leb n (l .last) hi), refl)
-year-written l (negsuc n) m k lo hi = absurd (omega arith)
+module _ (l : Layout) (c : Civil) (w : Writable l) (r : Ranged c) (y : ℕ) (is : y ≡ ofZ w64 (c .year)) where
+  agree : inYears l y ≡ writes l (c .year)
+  agree = ap (inYears l) is ∙ years-agree l (c .year) (r .year) (w .last)
+
+  -- a year that is not written, and one that is
+  pub unwritten : inYears l y ≡ false → refused 7 ≡ writeBits l c
+  unfolding writeBits
+  unwritten h = rw (sym agree ∙ h)
+
+  module _ (h : inYears l y ≡ true) where
+    first : l .year .offset ≤ y
+    first = leb-true (l .year .offset) y (and-left (leb (l .year .offset) y) (leb y (l .last)) h)
+
+    last : y ≤ l .last
+    last = leb-true y (l .last) (and-right (leb (l .year .offset) y) (leb y (l .last)) h)
+
+    pub packing : {d : Digits} → l .digits ≡ d → Packing d l y c
+    packing e = record { digits = e; writable = w; ranged = r; first = first; last = last }
+
+    pub written : (n : ℕ) → n ≡ packed l y c → gives n ≡ writeBits l c
+    unfolding writeBits
+    written n e =
+        let a : natAbs (c .year) ≡ y = size (c .year) (l .last) (r .year) (w .last) (rw is at last) ∙ sym is in
+        rw (sym agree ∙ h, a) (ap gives e)
+
+-- ---- the bits in the order of the word's bytes
+
+pub as-they-are : (x : Answer ℕ) → reordered (ordered Straight) x ≡ x
+unfolding ordered
+as-they-are (gives p) = refl
+as-they-are (refused n) = refl
+
+pub as-reversed : (x : Answer ℕ) → reordered (ordered Reversed) x ≡ reordered reversed x
+unfolding ordered
+as-reversed (gives p) = refl
+as-reversed (refused n) = refl
+
+pub as-year-swapped : (x : Answer ℕ) → reordered (ordered YearSwapped) x ≡ reordered yearSwapped x
+unfolding ordered
+as-year-swapped (gives p) = refl
+as-year-swapped (refused n) = refl
+
+-- ---- the word of the bits
+
+module _ (l : Layout) (c : Civil) where
+  no-word-by : (b : Bool) (n p : ℕ) (f : ℕ → ℕ) → refused n ≡ reordered f (cond b (gives p) (refused 7)) → b ≡ false
+  no-word-by true n p f e = absurd (clash n (f p) (gives (f p)) (sym e) refl)
+  no-word-by false n p f e = refl
+
+  pub no-word : {n : ℕ} → refused n ≡ writeBy l c → refused 7 ≡ writeFields l (gives c)
+  unfolding writeBits
+  no-word {n} e = rw (no-word-by (writes l (c .year)) n (packed l (natAbs (c .year)) c) (ordered (l .order)) e)
+
+  word-by : (b : Bool) (n p : ℕ) (f : ℕ → ℕ) → gives n ≡ reordered f (cond b (gives p) (refused 7)) → (b ≡ true) × (n ≡ f p)
+  word-by true n p f e = (refl, cc)
+  word-by false n p f e = absurd (clash 7 n (gives n) e refl)
+
+  module _ {n : ℕ} (e : gives n ≡ writeBy l c) where
+    by : (writes l (c .year) ≡ true) × (n ≡ ordered (l .order) (packed l (natAbs (c .year)) c))
+    unfolding writeBits
+    by = word-by (writes l (c .year)) n (packed l (natAbs (c .year)) c) (ordered (l .order)) e
+
+    pub its-word : gives (pos n) ≡ writeFields l (gives c)
+    its-word = rw (by .0) (ap (λ m. gives (pos m)) (by .1))
+
+    pub word-small : Writable l → Ranged c → n < 2 ^ 63
+    word-small w r =
+        let h : inYears l (ofZ w64 (c .year)) ≡ true = years-agree l (c .year) (r .year) (w .last) ∙ by .0 in
+        let p = packing l c w r (ofZ w64 (c .year)) refl h refl in
+        let a = size (c .year) (l .last) (r .year) (w .last) (p .last) in
+        rw (by .1) (ordered-small (l .order) _ (rw a (packed-small l (ofZ w64 (c .year)) c p)))
 
 -- ---- pairs
 

@@ -1,12 +1,11 @@
--- A layout number that picks no rule is refused under 1, whatever is asked of it.
+-- A layout number that picks no rule is refused under 1.
 use mathlib.Core.Path.{_≡_, refl, sym, ap}
 use mathlib.Core.Bool.{Bool, true, false, cond}
 use Prim.Native.Nat.{ℕ}
 use lib.Dec.{eqb}
 use Rattle.refusal.specs.Answers.{Answer, gives, refused}
 use Rattle.refusal.proofs.Answers.{clash}
-use Rattle.civil.specs.declared.instants.Instant.{Instant}
-use Rattle.registry.specs.Words.{ruleFor, decodeWith, encodeWith}
+use Rattle.registry.specs.Words.{ruleFor}
 use Rattle.registry.specs.declared.rules.Rule.{Rule}
 
 -- an answer that is a rule or refusal 1
@@ -29,8 +28,5 @@ is-one : (a : Answer Rule) {k : ℕ} → OneOrRule a → refused k ≡ a → a �
 is-one (gives r) {k} h e = absurd (clash k r (gives r) (sym e) refl)
 is-one (refused n) h e = ap refused h
 
-pub no-rule : (n : ℕ) {k : ℕ} → refused k ≡ ruleFor n
-    → ((w : ℕ) → decodeWith (ruleFor n) w ≡ refused 1) × ((t : Instant) → encodeWith (ruleFor n) t ≡ refused 1)
-no-rule n e =
-    let r = is-one (ruleFor n) (one-or-rule n) e in
-    (λ w. ap (λ a. decodeWith a w) r, λ t. ap (λ a. encodeWith a t) r)
+pub no-rule : (n : ℕ) {k : ℕ} → refused k ≡ ruleFor n → ruleFor n ≡ refused 1
+no-rule n e = is-one (ruleFor n) (one-or-rule n) e

@@ -1,22 +1,54 @@
 -- What the functions inside ask of a description, and promise each other.
 use mathlib.Core.Path.{_≡_}
-use mathlib.Core.Bool.{Bool, true, false}
+use mathlib.Core.Bool.{Bool, true, false, cond, _&&_}
 use Prim.Native.Nat.{ℕ, _+_, _-_, _*_, _/_, _^_, _≤_, _<_}
+use lib.Dec.{ltb, leb}
+use lib.IntN.{natAbs}
+use Rattle.refusal.specs.Answers.{Answer, gives, refused}
 use Rattle.civil.specs.Promises.{Ranged}
-use Rattle.civil.specs.declared.times.Civil.{Civil}
-use Rattle.registry.specs.Reading.{base}
-use Rattle.registry.specs.Writing.{numeral}
+use Rattle.civil.specs.declared.times.Civil as civil
+use Rattle.registry.specs.Orders.{ordered}
+use Rattle.registry.specs.Layouts.{bcd, semiOctet, gsm}
+use Rattle.registry.specs.Reading.{base, fieldsIn}
+use Rattle.registry.specs.Writing.{numeral, packed, writes}
+use Rattle.registry.specs.Words.{layoutFor}
 use Rattle.registry.specs.declared.layouts.Field.{Field}
 use Rattle.registry.specs.declared.layouts.Layout.{Layout}
 use Rattle.registry.specs.declared.layouts.Digits.{Digits}
 use Rattle.registry.specs.declared.layouts.Digits.the-variants.{Bits, Pairs, SwappedPairs, SemiOctets}
+use Rattle.registry.specs.declared.rules.Rule.{Rule}
+use Rattle.registry.specs.declared.rules.Rule.the-variants.{Civil, Gsm, NokiaLe, SqlServer}
 
--- the two kinds of pairs
+-- the two kinds of pairs, and their layouts
 abbrev pub pairs : Bool → Digits
 pairs false = Pairs
 pairs true = SwappedPairs
 
+abbrev pub pairLayout : Bool → Layout
+pairLayout false = bcd
+pairLayout true = semiOctet
+
+-- the rules that have civil fields, and their layouts. The other two are not asked for one
+abbrev pub fielded : Rule → Bool
+fielded (Civil k) = true
+fielded Gsm = true
+fielded NokiaLe = false
+fielded SqlServer = false
+
+abbrev pub layoutOf : Rule → Layout
+layoutOf (Civil k) = layoutFor k
+layoutOf Gsm = gsm
+layoutOf NokiaLe = gsm
+layoutOf SqlServer = gsm
+
 -- ---- for reading
+
+-- the fields in a word's bits, which are in order, where they are in range; and those of a word's 64 bits
+abbrev pub inRange : Layout → ℕ → Answer civil.Civil
+inRange l p = cond (ltb p (l .words)) (gives (fieldsIn l p)) (refused 2)
+
+abbrev pub readBy : Layout → ℕ → Answer civil.Civil
+readBy l w = inRange l (ordered (l .order) w)
 
 -- a field's places lie in the word, and its values are small
 abbrev pub InWord : Digits → Field → Type 0
@@ -40,6 +72,21 @@ pub record Sound (d : Digits) (l : Layout) : Type 0 where
   pub second : Readable d (l .second)
 
 -- ---- for writing
+
+-- a year that the layout writes, by its 64 bits
+abbrev pub inYears : Layout → ℕ → Bool
+inYears l y = leb (l .year .offset) y && leb y (l .last)
+
+-- the bits of a civil time in order, and in the order of the word's bytes
+unfoldable pub writeBits : Layout → civil.Civil → Answer ℕ
+writeBits l c = cond (writes l (c .year)) (gives (packed l (natAbs (c .year)) c)) (refused 7)
+
+abbrev pub reordered : (ℕ → ℕ) → Answer ℕ → Answer ℕ
+reordered order (gives p) = gives (order p)
+reordered order (refused n) = refused n
+
+abbrev pub writeBy : Layout → civil.Civil → Answer ℕ
+writeBy l c = reordered (ordered (l .order)) (writeBits l c)
 
 -- a number that a field holds
 abbrev pub Fitting : Digits → Field → ℕ → Type 0
@@ -94,7 +141,7 @@ pub record Ready (d : Digits) (f : Field) (v : ℕ) : Type 0 where
   pub fits : Fitting d f (numeral d f v)
 
 -- and what writing a year and civil fields asks
-pub record Packing (d : Digits) (l : Layout) (y : ℕ) (c : Civil) : Type 0 where
+pub record Packing (d : Digits) (l : Layout) (y : ℕ) (c : civil.Civil) : Type 0 where
   pub digits : l .digits ≡ d
   pub writable : Writable l
   pub ranged : Ranged c

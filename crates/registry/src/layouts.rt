@@ -1,4 +1,6 @@
 // What a layout is: where its six fields stand in the word and what their numbers mean.
+ghost use mathlib.Core.Path.{_≡_};
+ghost use Rattle.registry.specs.Parts.{pairLayout};
 
 // How the number that is stored in a field gives the field's value, before its offset and step.
 pub enum Digits {
@@ -602,3 +604,13 @@ pub const GSM: Layout = Layout {
         step: 1,
     },
 };
+
+// The two layouts of decimal pairs, which differ in the order of the digits alone.
+pub fn pair_layout(swapped: bool) -> Layout
+    ensures { λ r. ⌜ r ≡ pairLayout swapped ⌝ }
+{
+    if swapped {
+        return SEMI_OCTET;
+    }
+    BCD
+}

@@ -1,21 +1,18 @@
-// Reading civil fields out of a word, by a description.
+// Reading civil fields out of a word's bits, by a description.
 ghost use mathlib.Core.Path.{_≡_};
 ghost use Prim.Native.Nat.{_<_, _^_};
-ghost use Rattle.civil.specs.Answers.{readSeconds, secondsFor};
-ghost use Rattle.registry.specs.Reading.{valueIn, valueOf, stored, fieldsIn};
-ghost use Rattle.registry.specs.Words.{fieldsDecode};
-ghost use Rattle.registry.specs.Answers.{readDecoded};
-ghost use Rattle.registry.specs.Parts.{Readable, Sound, pairs};
+ghost use Rattle.civil.specs.Answers.{readFields};
+ghost use Rattle.registry.specs.Reading.{valueOf, stored, fieldsIn};
+ghost use Rattle.registry.specs.Parts.{Readable, Sound, pairs, pairLayout, inRange};
 use crate::layouts::Digits;
 use crate::layouts::Field;
 use crate::layouts::Layout;
-use crate::layouts::Order;
-use crate::orders::in_order;
+use crate::layouts::pair_layout;
 use crate::places::cut;
 use crate::places::pair;
+use civil::Civil;
+use civil::Fields;
 use civil::Instant;
-use civil::Seconds;
-use civil::seconds_at;
 use refusal::Refusal;
 
 // The instant that a word says, or why it says none.
@@ -61,85 +58,90 @@ fn semi_octet_at(p: u64, f: Field) -> u64
     offset - 1
 }
 
-// The seconds of the fields in a word's bits, which are in order: a reader for each kind of digits.
-fn seconds_by_bits(l: Layout, p: u64) -> Seconds
+// The fields in a word's bits, which are in order: a reader for each kind of digits.
+fn bits_in(l: Layout, p: u64) -> Civil
     requires { ⌜ Sound Digits.Bits l ⌝ }
     requires { ⌜ l .digits ≡ Digits.Bits ⌝ }
-    ensures { λ r. ⌜ readSeconds r ≡ secondsFor (fieldsIn l p) ⌝ }
+    ensures { λ r. ⌜ r ≡ fieldsIn l p ⌝ }
 {
     let year = bits_at(p, l.year) as i64;
-    seconds_at(
+    Civil {
         year,
-        bits_at(p, l.month),
-        bits_at(p, l.day),
-        bits_at(p, l.hour),
-        bits_at(p, l.minute),
-        bits_at(p, l.second),
-    )
-}
-
-fn seconds_by_pairs(l: Layout, swapped: bool, p: u64) -> Seconds
-    requires { ⌜ Sound (pairs swapped) l ⌝ }
-    requires { ⌜ l .digits ≡ pairs swapped ⌝ }
-    ensures { λ r. ⌜ readSeconds r ≡ secondsFor (fieldsIn l p) ⌝ }
-{
-    let year = pair_at(p, swapped, l.year) as i64;
-    seconds_at(
-        year,
-        pair_at(p, swapped, l.month),
-        pair_at(p, swapped, l.day),
-        pair_at(p, swapped, l.hour),
-        pair_at(p, swapped, l.minute),
-        pair_at(p, swapped, l.second),
-    )
-}
-
-fn seconds_by_semi_octets(l: Layout, p: u64) -> Seconds
-    requires { ⌜ Sound Digits.SemiOctets l ⌝ }
-    requires { ⌜ l .digits ≡ Digits.SemiOctets ⌝ }
-    ensures { λ r. ⌜ readSeconds r ≡ secondsFor (fieldsIn l p) ⌝ }
-{
-    let year = semi_octet_at(p, l.year) as i64;
-    seconds_at(
-        year,
-        semi_octet_at(p, l.month),
-        semi_octet_at(p, l.day),
-        semi_octet_at(p, l.hour),
-        semi_octet_at(p, l.minute),
-        semi_octet_at(p, l.second),
-    )
-}
-
-fn seconds_in(l: Layout, p: u64) -> Seconds
-    requires { ⌜ Sound (l .digits) l ⌝ }
-    ensures { λ r. ⌜ readSeconds r ≡ secondsFor (fieldsIn l p) ⌝ }
-{
-    let digits = l.digits;
-    match digits {
-        Digits::Bits => seconds_by_bits(l, p),
-        Digits::Pairs => seconds_by_pairs(l, false, p),
-        Digits::SwappedPairs => seconds_by_pairs(l, true, p),
-        Digits::SemiOctets => seconds_by_semi_octets(l, p),
+        month: bits_at(p, l.month),
+        day: bits_at(p, l.day),
+        hour: bits_at(p, l.hour),
+        minute: bits_at(p, l.minute),
+        second: bits_at(p, l.second),
     }
 }
 
-// The instant that a word's 64 bits say by a description.
-pub fn decode_fields(l: Layout, bits: u64) -> Decoded
-    requires { ⌜ Sound (l .digits) l ⌝ }
-    ensures { λ r. ⌜ readDecoded r ≡ fieldsDecode l bits ⌝ }
+fn pairs_in(l: Layout, swapped: bool, p: u64) -> Civil
+    requires { ⌜ Sound (pairs swapped) l ⌝ }
+    requires { ⌜ l .digits ≡ pairs swapped ⌝ }
+    ensures { λ r. ⌜ r ≡ fieldsIn l p ⌝ }
 {
-    let order = l.order;
-    let p = in_order(order, bits);
+    let year = pair_at(p, swapped, l.year) as i64;
+    Civil {
+        year,
+        month: pair_at(p, swapped, l.month),
+        day: pair_at(p, swapped, l.day),
+        hour: pair_at(p, swapped, l.hour),
+        minute: pair_at(p, swapped, l.minute),
+        second: pair_at(p, swapped, l.second),
+    }
+}
+
+fn semi_octets_in(l: Layout, p: u64) -> Civil
+    requires { ⌜ Sound Digits.SemiOctets l ⌝ }
+    requires { ⌜ l .digits ≡ Digits.SemiOctets ⌝ }
+    ensures { λ r. ⌜ r ≡ fieldsIn l p ⌝ }
+{
+    let year = semi_octet_at(p, l.year) as i64;
+    Civil {
+        year,
+        month: semi_octet_at(p, l.month),
+        day: semi_octet_at(p, l.day),
+        hour: semi_octet_at(p, l.hour),
+        minute: semi_octet_at(p, l.minute),
+        second: semi_octet_at(p, l.second),
+    }
+}
+
+// The same where the word is in range.
+pub fn read_bits(l: Layout, p: u64) -> Fields
+    requires { ⌜ Sound Digits.Bits l ⌝ }
+    requires { ⌜ l .digits ≡ Digits.Bits ⌝ }
+    ensures { λ r. ⌜ readFields r ≡ inRange l p ⌝ }
+{
     if l.words <= p {
-        return Decoded::Refused(Refusal {
+        return Fields::Refused(Refusal {
             number: Refusal::RANGE,
         });
     }
-    let found = seconds_in(l, p);
-    let Seconds::At(seconds) = found else {
-        return Decoded::Refused(Refusal {
-            number: Refusal::FIELDS,
+    Fields::At(bits_in(l, p))
+}
+
+pub fn read_pairs(swapped: bool, p: u64) -> Fields
+    ensures { λ r. ⌜ readFields r ≡ inRange (pairLayout swapped) p ⌝ }
+{
+    let l = pair_layout(swapped);
+    if l.words <= p {
+        return Fields::Refused(Refusal {
+            number: Refusal::RANGE,
         });
-    };
-    Decoded::At(Instant::at_second(seconds))
+    }
+    Fields::At(pairs_in(l, swapped, p))
+}
+
+pub fn read_semi_octets(l: Layout, p: u64) -> Fields
+    requires { ⌜ Sound Digits.SemiOctets l ⌝ }
+    requires { ⌜ l .digits ≡ Digits.SemiOctets ⌝ }
+    ensures { λ r. ⌜ readFields r ≡ inRange l p ⌝ }
+{
+    if l.words <= p {
+        return Fields::Refused(Refusal {
+            number: Refusal::RANGE,
+        });
+    }
+    Fields::At(semi_octets_in(l, p))
 }

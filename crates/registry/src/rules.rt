@@ -1,32 +1,20 @@
 // The layout number picks one of sixteen rules. A caller with many rows picks the rule once.
 ghost use mathlib.Core.Path.{_≡_};
+ghost use mathlib.Core.Bool.{true, false};
 ghost use mir.Syntax.{w64};
 ghost use mir.Val.{ofZ};
-ghost use Rattle.registry.specs.Words.{layoutFor, ruleFor, decodeBy, encodeBy, decodeFor, encodeFor};
+ghost use Rattle.registry.specs.Words.{ruleFor, decodeBy, encodeBy, decodeFor, encodeFor};
 ghost use Rattle.registry.specs.Answers.{readDecoded, readEncoded, readPicked};
-use crate::layouts::BCD;
-use crate::layouts::BIT_DATE;
-use crate::layouts::BIT_DEC;
-use crate::layouts::DTTM;
-use crate::layouts::DVR;
-use crate::layouts::FAT_DOS;
-use crate::layouts::GSM;
-use crate::layouts::LOG_TIME;
-use crate::layouts::Layout;
-use crate::layouts::MOTO;
-use crate::layouts::NS40;
-use crate::layouts::NS40_LE;
-use crate::layouts::SEMI_OCTET;
-use crate::layouts::SYMANTEC;
+ghost use Rattle.registry.specs.Parts.{fielded};
+use crate::from_fields::decode_local;
 use crate::nokia::decode_nokia;
 use crate::nokia::encode_nokia;
 use crate::read::Decoded;
-use crate::read::decode_fields;
 use crate::sql::decode_sql;
 use crate::sql::encode_sql;
+use crate::to_fields::encode_fields;
 use crate::write::Encoded;
-use crate::write::encode_fields;
-use crate::zone::decode_gsm;
+use crate::zone::then_zone;
 use civil::Instant;
 use refusal::Refusal;
 use signed::to_bits;
@@ -88,36 +76,59 @@ pub fn pick(layout: u32) -> Picked
     }
 }
 
-// The description of a layout of civil fields.
-fn layout_of(kind: Kind) -> Layout
-    ensures { λ r. ⌜ r ≡ layoutFor kind ⌝ }
+// Whether a rule has civil fields. The others count from an epoch.
+fn has_fields(rule: Rule) -> bool
+    ensures { λ r. ⌜ r ≡ fielded rule ⌝ }
 {
-    match kind {
-        Kind::FatDos => FAT_DOS,
-        Kind::ExFat => FAT_DOS,
-        Kind::Dttm => DTTM,
-        Kind::BitDate => BIT_DATE,
-        Kind::BitDec => BIT_DEC,
-        Kind::Bcd => BCD,
-        Kind::Moto => MOTO,
-        Kind::Symantec => SYMANTEC,
-        Kind::Dvr => DVR,
-        Kind::Ns40 => NS40,
-        Kind::Ns40Le => NS40_LE,
-        Kind::LogTime => LOG_TIME,
-        Kind::SemiOctet => SEMI_OCTET,
+    match rule {
+        Rule::Civil(kind) => true,
+        Rule::Gsm => true,
+        Rule::NokiaLe => false,
+        Rule::SqlServer => false,
+    }
+}
+
+// The instant that a word's 64 bits say by a rule that has fields.
+fn decode_fields(rule: Rule, bits: u64) -> Decoded
+    requires { ⌜ fielded rule ≡ true ⌝ }
+    ensures { λ r. ⌜ readDecoded r ≡ decodeBy rule bits ⌝ }
+{
+    let local = decode_local(rule, bits);
+    match rule {
+        Rule::Gsm => then_zone(bits, local),
+        _ => local,
+    }
+}
+
+// The instant that a word's 64 bits say by a rule that counts.
+fn decode_count(rule: Rule, bits: u64) -> Decoded
+    requires { ⌜ fielded rule ≡ false ⌝ }
+    ensures { λ r. ⌜ readDecoded r ≡ decodeBy rule bits ⌝ }
+{
+    match rule {
+        Rule::NokiaLe => decode_nokia(bits),
+        _ => decode_sql(bits),
     }
 }
 
 // The instant that a word's 64 bits say by a rule.
-fn decode_bits(rule: Rule, bits: u64) -> Decoded
+pub fn decode_bits(rule: Rule, bits: u64) -> Decoded
     ensures { λ r. ⌜ readDecoded r ≡ decodeBy rule bits ⌝ }
 {
+    if has_fields(rule) {
+        return decode_fields(rule, bits);
+    }
+    decode_count(rule, bits)
+}
+
+// The word of an instant by a rule that counts.
+fn encode_count(rule: Rule, instant: Instant) -> Encoded
+    requires { ⌜ fielded rule ≡ false ⌝ }
+    ensures { λ r. ⌜ readEncoded r ≡ encodeBy rule instant ⌝ }
+{
     match rule {
-        Rule::Civil(kind) => decode_fields(layout_of(kind), bits),
-        Rule::Gsm => decode_gsm(bits),
-        Rule::NokiaLe => decode_nokia(bits),
-        Rule::SqlServer => decode_sql(bits),
+        Rule::NokiaLe => encode_nokia(instant),
+        _ => encode_sql(instant),
     }
 }
 
@@ -132,12 +143,10 @@ pub fn decode_by(rule: Rule, word: i64) -> Decoded
 pub fn encode_by(rule: Rule, instant: Instant) -> Encoded
     ensures { λ r. ⌜ readEncoded r ≡ encodeBy rule instant ⌝ }
 {
-    match rule {
-        Rule::Civil(kind) => encode_fields(layout_of(kind), instant),
-        Rule::Gsm => encode_fields(GSM, instant),
-        Rule::NokiaLe => encode_nokia(instant),
-        Rule::SqlServer => encode_sql(instant),
+    if has_fields(rule) {
+        return encode_fields(rule, instant);
     }
+    encode_count(rule, instant)
 }
 
 // The instant that a word says, by the layout of a number.

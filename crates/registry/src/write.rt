@@ -1,24 +1,17 @@
-// Writing civil fields into a word, by a description.
+// Writing civil fields into a word's bits, by a description.
 ghost use mathlib.Core.Path.{_≡_};
 ghost use Prim.Native.Nat.{_≤_, _<_};
-ghost use Rattle.refusal.specs.Answers.{gives};
 ghost use Rattle.civil.specs.Promises.{Ranged};
 ghost use Rattle.registry.specs.Writing.{steps, placed, packed};
-ghost use Rattle.registry.specs.Words.{writeFields, fieldsEncode};
-ghost use Rattle.registry.specs.Answers.{readEncoded};
-ghost use Rattle.registry.specs.Parts.{Ready, Packing, Writable, pairs};
+ghost use Rattle.registry.specs.Answers.{readPacked};
+ghost use Rattle.registry.specs.Parts.{Ready, Packing, Writable, pairs, pairLayout, inYears, writeBits};
 use crate::layouts::Digits;
 use crate::layouts::Field;
 use crate::layouts::Layout;
-use crate::layouts::Order;
-use crate::orders::in_order;
+use crate::layouts::pair_layout;
 use crate::places::hundreds;
 use crate::places::moved;
-use crate::places::word_of;
 use civil::Civil;
-use civil::Fields;
-use civil::Instant;
-use civil::fields_of;
 use refusal::Refusal;
 use signed::to_bits;
 
@@ -28,17 +21,18 @@ pub enum Encoded {
     Refused(Refusal),
 }
 
-// The steps of a value. Most fields have steps of 1, and a division is dear.
+// The bits of a civil time, or why it has none.
+pub enum Packed {
+    Bits(u64),
+    Refused(Refusal),
+}
+
+// The steps of a value.
 fn steps_of(f: Field, v: u64) -> u64
     requires { ⌜ (f .offset ≤ v) × (0 < f .step) ⌝ }
     ensures { λ r. ⌜ r ≡ steps f v ⌝ }
 {
-    let step = f.step;
-    let above = v - f.offset;
-    if step == 1 {
-        return above;
-    }
-    above / step
+    (v - f.offset) / f.step
 }
 
 // A value at its place: a writer for each kind of digits.
@@ -106,55 +100,56 @@ fn pack_semi_octets(l: Layout, y: u64, c: Civil) -> u64
         + placed_semi_octet(l.second, c.second)
 }
 
-fn pack(l: Layout, y: u64, c: Civil) -> u64
-    requires { ⌜ Packing (l .digits) l y c ⌝ }
-    ensures { λ r. ⌜ r ≡ packed l y c ⌝ }
+// Whether a year is one that the layout writes, by its 64 bits: a negative one has bits above every last year.
+fn writes_year(l: Layout, y: u64) -> bool
+    ensures { λ r. ⌜ r ≡ inYears l y ⌝ }
 {
-    let digits = l.digits;
-    match digits {
-        Digits::Bits => pack_bits(l, y, c),
-        Digits::Pairs => pack_pairs(l, false, y, c),
-        Digits::SwappedPairs => pack_pairs(l, true, y, c),
-        Digits::SemiOctets => pack_semi_octets(l, y, c),
-    }
-}
-
-// The word of a civil time. A negative year has bits above every last year.
-fn write_fields(l: Layout, c: Civil) -> Encoded
-    requires { ⌜ (Writable l) × (Ranged c) ⌝ }
-    ensures { λ r. ⌜ readEncoded r ≡ writeFields l (gives c) ⌝ }
-{
-    let y = to_bits(c.year);
     let year = l.year;
     if y < year.offset {
-        return Encoded::Refused(Refusal {
-            number: Refusal::YEAR,
-        });
+        return false;
     }
-    if l.last < y {
-        return Encoded::Refused(Refusal {
-            number: Refusal::YEAR,
-        });
-    }
-    let order = l.order;
-    Encoded::Word(word_of(in_order(order, pack(l, y, c))))
+    y <= l.last
 }
 
-// The word of an instant by a description.
-pub fn encode_fields(l: Layout, t: Instant) -> Encoded
-    requires { ⌜ Writable l ⌝ }
-    ensures { λ r. ⌜ readEncoded r ≡ fieldsEncode l t ⌝ }
+// The bits of a civil time, in order: a writer for each kind of digits.
+pub fn write_bits(l: Layout, c: Civil) -> Packed
+    requires { ⌜ (Writable l) × (Ranged c) ⌝ }
+    requires { ⌜ l .digits ≡ Digits.Bits ⌝ }
+    ensures { λ r. ⌜ readPacked r ≡ writeBits l c ⌝ }
 {
-    if Instant::NANOS < t.nanos {
-        return Encoded::Refused(Refusal {
-            number: Refusal::NANOS,
-        });
+    let y = to_bits(c.year);
+    if writes_year(l, y) {
+        return Packed::Bits(pack_bits(l, y, c));
     }
-    let found = fields_of(t.seconds);
-    let Fields::At(c) = found else {
-        return Encoded::Refused(Refusal {
-            number: Refusal::WINDOW,
-        });
-    };
-    write_fields(l, c)
+    Packed::Refused(Refusal {
+        number: Refusal::YEAR,
+    })
+}
+
+pub fn write_pairs(swapped: bool, c: Civil) -> Packed
+    requires { ⌜ Ranged c ⌝ }
+    ensures { λ r. ⌜ readPacked r ≡ writeBits (pairLayout swapped) c ⌝ }
+{
+    let l = pair_layout(swapped);
+    let y = to_bits(c.year);
+    if writes_year(l, y) {
+        return Packed::Bits(pack_pairs(l, swapped, y, c));
+    }
+    Packed::Refused(Refusal {
+        number: Refusal::YEAR,
+    })
+}
+
+pub fn write_semi_octets(l: Layout, c: Civil) -> Packed
+    requires { ⌜ (Writable l) × (Ranged c) ⌝ }
+    requires { ⌜ l .digits ≡ Digits.SemiOctets ⌝ }
+    ensures { λ r. ⌜ readPacked r ≡ writeBits l c ⌝ }
+{
+    let y = to_bits(c.year);
+    if writes_year(l, y) {
+        return Packed::Bits(pack_semi_octets(l, y, c));
+    }
+    Packed::Refused(Refusal {
+        number: Refusal::YEAR,
+    })
 }

@@ -2,11 +2,10 @@
 ghost use mathlib.Core.Path.{_≡_};
 ghost use Prim.Native.Nat.{_<_, _^_};
 ghost use lib.Signed.{mag};
-ghost use Rattle.registry.specs.Words.{lessZone, gsmDecode};
+ghost use Rattle.registry.specs.Layouts.{gsm};
+ghost use Rattle.registry.specs.Words.{fieldsDecode, lessZone, gsmDecode};
 ghost use Rattle.registry.specs.Answers.{readDecoded};
-use crate::layouts::GSM;
 use crate::read::Decoded;
-use crate::read::decode_fields;
 use civil::Instant;
 use refusal::Refusal;
 
@@ -30,12 +29,13 @@ fn less_zone(zone: u64, local: Instant) -> Decoded
     Decoded::At(Instant::new(seconds + offset, local.nanos))
 }
 
-pub fn decode_gsm(bits: u64) -> Decoded
+// What a Gsm word says, of the instant that its fields say: the date is looked at before the zone, which is the low byte.
+pub fn then_zone(bits: u64, local: Decoded) -> Decoded
+    requires { ⌜ readDecoded local ≡ fieldsDecode gsm bits ⌝ }
     ensures { λ r. ⌜ readDecoded r ≡ gsmDecode bits ⌝ }
 {
-    let found = decode_fields(GSM, bits);
-    let Decoded::At(local) = found else {
-        return found;
+    let Decoded::At(t) = local else {
+        return local;
     };
-    less_zone(bits % 256, local)
+    less_zone(bits % 256, t)
 }

@@ -2,8 +2,8 @@
 use borrow.Author.Needs.{needs}
 use mathlib.Core.Path.{refl}
 use Prim.Native.Nat.{_/_, _^_, _<_}
-use Rattle.registry.specs.Orders.{reversed}
 use native.Mathlib.Omega.{arith}
+use Rattle.registry.specs.Orders.{reversed}
 use Rattle.registry.proofs.orders.reverse.Statement.{statement}
 use Rattle.registry.proofs.orders.reverse.Tie as tie
 
@@ -22,16 +22,14 @@ mul-result-3 c = search needs
 add-result-2 : tie.Need-add-result-2
 add-result-2 c = search needs
 
-mul-result-4 : tie.Need-mul-result-4
-mul-result-4 c = search needs
-
 add-result-3 : tie.Need-add-result-3
 add-result-3 c = search needs
 
+mul-result-4 : tie.Need-mul-result-4
+mul-result-4 c = search needs
+
 add-result-4 : tie.Need-add-result-4
-add-result-4 c =
-    let h : c .args .p / 2 ^ 32 < 2 ^ 32 = omega arith in
-    omega arith
+add-result-4 c = let h : c .args .p / 2 ^ 32 < 2 ^ 32 = omega arith in omega arith
 
 returns : tie.Need-returns
 unfolding reversed
@@ -46,7 +44,7 @@ reverse-spec =
     add-result
     mul-result-3
     add-result-2
-    mul-result-4
     add-result-3
+    mul-result-4
     add-result-4
     returns)

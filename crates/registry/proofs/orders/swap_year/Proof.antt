@@ -14,11 +14,11 @@ mul-result-2 c = search needs
 add-result : tie.Need-add-result
 add-result c = search needs
 
-mul-result-3 : tie.Need-mul-result-3
-mul-result-3 c = search needs
-
 add-result-2 : tie.Need-add-result-2
 add-result-2 c = search needs
+
+mul-result-3 : tie.Need-mul-result-3
+mul-result-3 c = search needs
 
 add-result-3 : tie.Need-add-result-3
 add-result-3 c = search needs
@@ -30,4 +30,4 @@ returns c = refl
 pub swap-year-spec : {M : Type 1} → statement M
 swap-year-spec =
     tie.close
-    (tie.spec mul-result mul-result-2 add-result mul-result-3 add-result-2 add-result-3 returns)
+    (tie.spec mul-result mul-result-2 add-result add-result-2 mul-result-3 add-result-3 returns)

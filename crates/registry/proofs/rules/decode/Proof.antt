@@ -22,7 +22,8 @@ enum-told c = search needs
 returns : tie.Need-returns
 returns c =
     let s = c .before .before .before in
-    sym (no-rule (s .args .layout) (sym (ap readPicked (c .enum-told .given .1)) ∙ c .before .before .pick .ensures) .0 (ofZ w64 (s .args .word)))
+    let r = no-rule (s .args .layout) (sym (ap readPicked (c .enum-told .given .1)) ∙ c .before .before .pick .ensures) in
+    sym (ap (λ a. decodeWith a (ofZ w64 (s .args .word))) r)
 
 decode-by-requires : tie.Need-decode-by-requires
 decode-by-requires c κs = search needs

@@ -19,7 +19,8 @@ enum-told c = search needs
 returns : tie.Need-returns
 returns c =
     let s = c .before .before .before in
-    sym (no-rule (s .args .layout) (sym (ap readPicked (c .enum-told .given .1)) ∙ c .before .before .pick .ensures) .1 (s .args .instant))
+    let r = no-rule (s .args .layout) (sym (ap readPicked (c .enum-told .given .1)) ∙ c .before .before .pick .ensures) in
+    sym (ap (λ a. encodeWith a (s .args .instant)) r)
 
 encode-by-requires : tie.Need-encode-by-requires
 encode-by-requires c κs = search needs
