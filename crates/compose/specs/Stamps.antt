@@ -4,9 +4,10 @@ use mathlib.Core.List.{List}
 use Prim.Native.Nat.{ℕ, _+_, _*_, _/_, _%_, _^_}
 use lib.Dec.{eqb}
 use lib.IntN.{ℤ, pos, _+ℤ_, _-ℤ_, _*ℤ_}
-use lib.ListN.{length, getD}
+use lib.ListN.{length, getD, take, drop}
 use Rattle.refusal.specs.Answers.{Answer, gives, refused}
 use Rattle.signed.specs.Extend.{lowSigned}
+use Rattle.octets.specs.Octets.{numberOf}
 use Rattle.civil.specs.Answers.{secondsFor}
 use Rattle.civil.specs.declared.times.Civil.{Civil}
 use Rattle.civil.specs.declared.instants.Instant.{Instant}
@@ -16,7 +17,7 @@ byte b k = getD b k 0
 
 -- bytes k and k + 1, the low one first
 abbrev pub word : List ℕ → ℕ → ℕ
-word b k = byte b k + byte b (k + 1) * 2 ^ 8
+word b k = numberOf (take 2 (drop k b))
 
 -- 10 for a stamp that has not n bytes, before anything in it is looked at
 abbrev pub ofLength : ℕ → List ℕ → Answer Instant → Answer Instant

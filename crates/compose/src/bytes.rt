@@ -3,12 +3,20 @@ ghost use mathlib.Core.Path.{_≡_};
 ghost use Prim.Native.Nat.{_+_, _<_};
 ghost use lib.ListN.{length};
 ghost use Rattle.compose.specs.Stamps.{byte, word};
+use octets::get16;
 
 // A byte as a wide number.
 fn widened(b: u8) -> u64
     ensures { λ r. ⌜ (r ≡ b) × (r < 256) ⌝ }
 {
     b as u64
+}
+
+// A pair of bytes as a wide number.
+fn widened_pair(n: u16) -> u64
+    ensures { λ r. ⌜ (r ≡ n) × (r < 65536) ⌝ }
+{
+    n as u64
 }
 
 // Byte k of a stamp.
@@ -24,5 +32,5 @@ pub fn word_of(stamp: &[u8], k: usize) -> u64
     requires { ⌜ k + 1 < length (now stamp) ⌝ }
     ensures { λ r. ⌜ (r ≡ word (now (stamp .entry)) k) × (r < 65536) ⌝ }
 {
-    byte_of(stamp, k) + byte_of(stamp, k + 1) * 256
+    widened_pair(get16(&stamp[k..]))
 }

@@ -1,0 +1,5 @@
+pub mod Bytes
+pub mod Turns
+pub mod Shapes
+pub mod Numbers
+pub mod Promises

@@ -1,0 +1,49 @@
+-- `get32` meets its contract: read in one, or byte by byte where the slice ends. Assumes nothing.
+use borrow.Author.Needs.{needs}
+use denote.Ref.{now}
+use native.Mathlib.Omega.{arith}
+use Rattle.octets.proofs.Parts.{four}
+use Rattle.octets.proofs.get32.Statement.{statement}
+use Rattle.octets.proofs.get32.Tie as tie
+
+four-of-requires : tie.Need-four-of-requires
+four-of-requires c κs = search needs
+
+returns : tie.Need-returns
+returns c = search needs
+
+byte-at-requires : tie.Need-byte-at-requires
+byte-at-requires c κs = search needs
+
+byte-at-requires-2 : tie.Need-byte-at-requires-2
+byte-at-requires-2 c κs = search needs
+
+byte-at-requires-3 : tie.Need-byte-at-requires-3
+byte-at-requires-3 c κs = search needs
+
+byte-at-requires-4 : tie.Need-byte-at-requires-4
+byte-at-requires-4 c κs = search needs
+
+join-four-requires : tie.Need-join-four-requires
+join-four-requires c κs = search needs
+
+returns-2 : tie.Need-returns-2
+returns-2 c =
+    let c4 = c .before in
+    let c3 = c4 .before in
+    let c2 = c3 .before in
+    let c1 = c2 .before in
+    omega (arith, c .join-four .ensures, c1 .byte-at .ensures, c2 .byte-at2 .ensures, c3 .byte-at3 .ensures, c4 .byte-at4 .ensures, four (now (c1 .before .before .before .args .s)))
+
+pub get32-spec : {M : Type 1} → statement M
+get32-spec =
+    tie.close
+    (tie.spec
+    four-of-requires
+    returns
+    byte-at-requires
+    byte-at-requires-2
+    byte-at-requires-3
+    byte-at-requires-4
+    join-four-requires
+    returns-2)
