@@ -1,8 +1,8 @@
 //! What a list is made of: lines in parts, and how the Rust's counts are written in them.
 
-use crate::PosixNs;
 use std::collections::HashSet;
 use std::hash::Hash;
+use timeglyph::PosixNs;
 
 pub const NANOSECONDS_PER_SECOND: i128 = 1_000_000_000;
 

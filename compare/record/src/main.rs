@@ -4,14 +4,9 @@
 mod calendar;
 mod composites;
 mod lists;
+#[path = "../../splitmix.rs"]
 mod splitmix;
-#[path = "../stand_in/timeglyph.rs"]
-mod timeglyph;
 mod words;
-
-// `mod registry` and `mod compose`, the Rust's own text, and what they look for in the root of their crate.
-include!(concat!(env!("OUT_DIR"), "/timeglyph.rs"));
-use timeglyph::{format, ChronoError, Format, PackedCodec, PosixNs, Unit};
 
 use lists::{Line, Part};
 use std::collections::BTreeMap;
@@ -40,7 +35,7 @@ fn main() {
         eprintln!("record: {folder}: {error}");
         process::exit(1);
     }
-    println!("list {list}, jiff {}, seed {seed}", env!("JIFF_VERSION"));
+    println!("list {list}, jiff {}, seed {seed}", timeglyph::JIFF_VERSION);
     for part in &parts {
         println!("{}: {}", part.name, counts(&part.lines));
     }

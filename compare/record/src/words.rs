@@ -13,12 +13,10 @@ mod word_boundaries;
 pub use random::SEED;
 
 use crate::lists::{self, instant, once, part, Line, Part, NANOSECONDS_PER_SECOND};
-use crate::registry::FORMATS;
 use crate::splitmix::SplitMix;
-use crate::{ChronoError, PackedCodec, PosixNs};
-use forensicnomicon::temporal_formats::Encoding;
 use layouts::NUMBERS;
 use std::fmt;
+use timeglyph::{codec, ChronoError, PosixNs};
 
 /// The layout number and the nanoseconds are as wide as a line's numbers, so that they need not be good.
 #[derive(Clone, Copy, PartialEq, Eq, Hash)]
@@ -120,16 +118,4 @@ fn rust_encodes(layout: i64, seconds: i64, nanos: i64) -> Result<i64, ChronoErro
     let count = i128::from(seconds) * NANOSECONDS_PER_SECOND + i128::from(nanos);
     let encode = codec(layout).encode.expect("each of the sixteen encodes");
     encode(PosixNs(count))
-}
-
-/// The Rust's codec for a number from 1 to 16.
-fn codec(layout: i64) -> &'static PackedCodec {
-    FORMATS
-        .iter()
-        .find(|format| match format.meta.encoding {
-            Encoding::Packed(packed) => packed as i64 + 1 == layout,
-            _ => false,
-        })
-        .and_then(|format| format.packed.as_ref())
-        .expect("each of the sixteen has a codec")
 }

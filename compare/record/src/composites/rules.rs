@@ -14,8 +14,8 @@
 use super::written::Written;
 use super::Question;
 use crate::lists::NANOSECONDS_PER_SECOND;
-use crate::{compose, ChronoError, PosixNs};
 use std::process;
+use timeglyph::{compose, ChronoError, PosixNs};
 
 const RANGE: u8 = 2;
 const FIELDS: u8 = 3;

@@ -24,8 +24,8 @@ use super::layouts::{Layout, NUMBERS};
 use super::{decode, encode, rust_decodes, rust_encodes, Question};
 use crate::calendar::{fields_of, WINDOW_FIRST, WINDOW_LAST};
 use crate::lists::NANOSECONDS_PER_SECOND;
-use crate::{ChronoError, PosixNs};
 use std::process;
+use timeglyph::{ChronoError, PosixNs};
 
 const LAYOUT: u8 = 1;
 const RANGE: u8 = 2;

@@ -1,10 +1,17 @@
-//! A stand-in for the root of the crate timeglyph, which leans on crates that are not at hand: what its src/registry.rs and
-//! src/compose.rs take from there, with the parts that they use. The root of the recorder passes it on.
+//! timeglyph's own src/registry.rs and src/compose.rs, under a stand-in for the root of their crate: the true one leans on
+//! crates that are not at hand. It has what the two take from there, with the parts that they use, and a way to a layout's
+//! codec by document 01's numbers.
 //!
 //! Of the linear formats there is FILETIME alone. It is decoded as the root's `Format::decode_int` decodes such a format; its
 //! epoch and unit, which the catalogue of another crate has, are those of document 01.
 
-use forensicnomicon::temporal_formats::TimeFormat;
+// `pub mod registry` and `pub mod compose`, the Rust's own text.
+include!(concat!(env!("OUT_DIR"), "/modules.rs"));
+
+use forensicnomicon::temporal_formats::{Encoding, TimeFormat};
+
+/// The version of jiff that they are compiled with.
+pub const JIFF_VERSION: &str = env!("JIFF_VERSION");
 
 pub enum ChronoError {
     OutOfRange { what: &'static str, value: i128 },
@@ -65,4 +72,16 @@ impl Linear {
 pub fn format(id: &str) -> Result<&'static Linear, ChronoError> {
     assert_eq!(id, "filetime", "src/compose.rs asks for no other format");
     Ok(&FILETIME)
+}
+
+/// The codec of a layout number from 1 to 16.
+pub fn codec(layout: i64) -> &'static PackedCodec {
+    registry::FORMATS
+        .iter()
+        .find(|format| match format.meta.encoding {
+            Encoding::Packed(packed) => packed as i64 + 1 == layout,
+            _ => false,
+        })
+        .and_then(|format| format.packed.as_ref())
+        .expect("each of the sixteen has a codec")
 }
