@@ -1,0 +1,106 @@
+//! Random columns, in bytes and in slots, against the single calls made row by row.
+
+use crate::columns::{instant_bytes, word_bytes};
+use crate::splitmix::SplitMix;
+use sleetrick::{
+    decode, decode_column, decode_words, encode, encode_column, encode_instants, Instant, Refusal,
+    Slot,
+};
+
+const COLUMNS_PER_LAYOUT: usize = 30;
+
+/// Longer than several of the blocks that slots are filled in.
+const MOST: u64 = 1_200;
+
+/// The seconds of 2000 to 2049, which every layout has room for.
+const FIRST: i64 = 946_684_800;
+const LAST: i64 = 2_524_607_999;
+
+#[test]
+fn words() {
+    let mut numbers = SplitMix::new(20_261_116);
+    for layout in 1..=16 {
+        for _ in 0..COLUMNS_PER_LAYOUT {
+            let instants = column(&mut numbers, good_instant);
+            let mut words: Vec<i64> = instants
+                .into_iter()
+                .map(|instant| encode(layout, instant).expect("every layout has room"))
+                .collect();
+            damage(&mut words, &mut numbers, SplitMix::of_any_length);
+
+            let (expected, refusal) = row_by_row(&words, |word| decode(layout, word));
+            let mut bytes = vec![0; words.len() * 12];
+            let done = decode_column(layout, &word_bytes(&words), &mut bytes);
+            assert_eq!((done.rows(), done.refusal()), (expected.len(), refusal));
+            assert!(done.results() == instant_bytes(&expected));
+            let mut room = vec![Slot::EMPTY; words.len()];
+            let done = decode_words(layout, &words, &mut room);
+            assert_eq!((done.rows(), done.refusal()), (expected.len(), refusal));
+            assert!(done.results() == expected);
+        }
+    }
+}
+
+#[test]
+fn instants() {
+    let mut numbers = SplitMix::new(20_261_117);
+    for layout in 1..=16 {
+        for _ in 0..COLUMNS_PER_LAYOUT {
+            let mut instants = column(&mut numbers, good_instant);
+            damage(&mut instants, &mut numbers, any_instant);
+
+            let (expected, refusal) = row_by_row(&instants, |instant| encode(layout, instant));
+            let mut bytes = vec![0; instants.len() * 8];
+            let done = encode_column(layout, &instant_bytes(&instants), &mut bytes);
+            assert_eq!((done.rows(), done.refusal()), (expected.len(), refusal));
+            assert!(done.results() == word_bytes(&expected));
+            let mut room = vec![Slot::EMPTY; instants.len()];
+            let done = encode_instants(layout, &instants, &mut room);
+            assert_eq!((done.rows(), done.refusal()), (expected.len(), refusal));
+            assert!(done.results() == expected);
+        }
+    }
+}
+
+fn column<T>(numbers: &mut SplitMix, row: impl Fn(&mut SplitMix) -> T) -> Vec<T> {
+    let rows = numbers.below(MOST + 1);
+    (0..rows).map(|_| row(numbers)).collect()
+}
+
+fn good_instant(numbers: &mut SplitMix) -> Instant {
+    Instant {
+        seconds: numbers.between(FIRST, LAST),
+        nanos: numbers.below(1_000_000_000) as u32,
+    }
+}
+
+fn any_instant(numbers: &mut SplitMix) -> Instant {
+    Instant {
+        seconds: numbers.of_any_length(),
+        nanos: numbers.below(1 << 32) as u32,
+    }
+}
+
+/// Puts another row in up to three places.
+fn damage<T>(rows: &mut [T], numbers: &mut SplitMix, row: impl Fn(&mut SplitMix) -> T) {
+    for _ in 0..numbers.below(4) {
+        if let Some(last) = rows.len().checked_sub(1) {
+            rows[numbers.below(last as u64 + 1) as usize] = row(numbers);
+        }
+    }
+}
+
+/// What the single calls give, until one refuses.
+fn row_by_row<In: Copy, Out>(
+    rows: &[In],
+    call: impl Fn(In) -> Result<Out, Refusal>,
+) -> (Vec<Out>, Option<Refusal>) {
+    let mut results = Vec::new();
+    for &row in rows {
+        match call(row) {
+            Ok(result) => results.push(result),
+            Err(refusal) => return (results, Some(refusal)),
+        }
+    }
+    (results, None)
+}
