@@ -5,7 +5,7 @@
 ghost use mathlib.Core.Path.{_≡_};
 ghost use Prim.Native.Nat.{_≤_, _-_};
 ghost use lib.ListN.{take, getD};
-ghost use Rattle.lines.specs.Lines.{kept, left};
+ghost use Rattle.blocks.specs.Blocks.{kept, left};
 
 // Where a reader stands: how many bytes of the line it holds, and how many of its block's bytes it has used, of how many.
 pub struct Place {

@@ -1,12 +1,12 @@
--- `lines::byte_at` meets its contract. Assumes nothing.
+-- `blocks::byte_at` meets its contract. Assumes nothing.
 use borrow.Author.Needs.{needs}
 use Prim.Native.Nat.{ℕ, zero, suc, _≤_}
 use mathlib.Core.Path.{_≡_, refl, sym}
 use mathlib.Core.List.{List, [], _∷_}
 use native.Mathlib.Omega.{arith}
 use lib.ListN.{length, getD}
-use Rattle.lines.proofs.byte_at.Statement.{statement}
-use Rattle.lines.proofs.byte_at.Tie as tie
+use Rattle.blocks.proofs.byte_at.Statement.{statement}
+use Rattle.blocks.proofs.byte_at.Tie as tie
 
 past : (s : List ℕ) (k : ℕ) → length s ≤ k → getD s k 0 ≡ 0
 past [] zero h = refl

@@ -1,9 +1,9 @@
--- `lines::keep` meets its contract, by the test for room. Assumes nothing.
+-- `blocks::keep` meets its contract, by the test for room. Assumes nothing.
 use borrow.Author.Needs.{needs}
 use borrow.Author.Tests.{lt-ltb, le-ltb}
-use Rattle.lines.specs.Lines.{kept}
-use Rattle.lines.proofs.keep.Statement.{statement}
-use Rattle.lines.proofs.keep.Tie as tie
+use Rattle.blocks.specs.Blocks.{kept}
+use Rattle.blocks.proofs.keep.Statement.{statement}
+use Rattle.blocks.proofs.keep.Tie as tie
 
 slice-write-held : tie.Need-slice-write-held
 slice-write-held c = search needs

@@ -1,10 +1,10 @@
--- `lines::turns_left` meets its contract. Assumes nothing.
+-- `blocks::turns_left` meets its contract. Assumes nothing.
 use borrow.Author.Needs.{needs}
 use borrow.Author.Tests.{ne-eqb}
 use native.Mathlib.Omega.{arith}
-use Rattle.lines.specs.Lines.{left}
-use Rattle.lines.proofs.turns_left.Statement.{statement}
-use Rattle.lines.proofs.turns_left.Tie as tie
+use Rattle.blocks.specs.Blocks.{left}
+use Rattle.blocks.proofs.turns_left.Statement.{statement}
+use Rattle.blocks.proofs.turns_left.Tie as tie
 
 returns : tie.Need-returns
 unfolding left
