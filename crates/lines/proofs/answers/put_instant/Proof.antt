@@ -1,0 +1,58 @@
+-- `lines::answers::put_instant` meets its contract: three texts, one behind another. Assumes nothing.
+use borrow.Author.Needs.{needs}
+use native.Mathlib.Omega.{arith}
+use lib.ListN.{length-append}
+use mir.Facts.{toZ-ofZ, toZ-pos}
+use mir.Syntax.{w64}
+use Rattle.lines.specs.Answers.{instantText}
+use Rattle.lines.proofs.Texts.{puts-then, length-instant}
+use lib.IntN.{pos}
+use mathlib.Core.List.{[], _∷_, _++_}
+use Rattle.decimal.specs.Write.{showInt}
+use Rattle.lines.proofs.answers.put_instant.Statement.{statement}
+use Rattle.lines.proofs.answers.put_instant.Tie as tie
+
+put-number-requires : tie.Need-put-number-requires
+put-number-requires c κs = search needs
+
+slice-aggregate-put : tie.Need-slice-aggregate-put
+slice-aggregate-put c = search needs
+
+put-requires : tie.Need-put-requires
+put-requires c κs = search needs
+
+cast-put-number : tie.Need-cast-put-number
+cast-put-number c = search needs
+
+put-number-requires-2 : tie.Need-put-number-requires-2
+put-number-requires-2 c κs = search needs
+
+same-length : tie.Need-same-length
+same-length c = search needs
+
+returns : tie.Need-returns
+unfolding instantText
+returns c =
+    let nanos = c .before .before in
+    let space = nanos .before .before .before .before .before in
+    let seconds = space .before .before .before .before .before in
+    let start = seconds .before .before .before .before in
+    let t = start .args .instant in
+    let e = toZ-ofZ {w = w64} {z = t .seconds} (search needs) in
+    let first = showInt (t .seconds) in
+    let last = showInt (pos (t .nanos)) in
+    puts-then (start .args .out .now) (start .args .at) (first ++ (32 ∷ [])) last (omega (arith, length-instant t))
+    (puts-then (start .args .out .now) (start .args .at) first (32 ∷ []) (omega (arith, length-instant t, length-append (first ++ (32 ∷ [])) last)) (rw e at (seconds .put-number .ensures)) (space .put .ensures))
+    (rw (toZ-pos w64 {n = t .nanos} (search needs)) at (nanos .put-number2 .ensures))
+
+pub put-instant-spec : {M : Type 1} → statement M
+put-instant-spec =
+    tie.close
+    (tie.spec
+    put-number-requires
+    slice-aggregate-put
+    put-requires
+    cast-put-number
+    put-number-requires-2
+    same-length
+    returns)

@@ -1,0 +1,42 @@
+-- `lines::answers::put_number` meets its contract, by those of the two calls. Assumes nothing.
+use borrow.Author.Needs.{needs}
+use mir.Facts.{toZ-ofZ}
+use Rattle.decimal.proofs.AtEnd.{lends}
+use Rattle.lines.proofs.answers.put_number.Statement.{statement}
+use Rattle.lines.proofs.answers.put_number.Tie as tie
+
+text-of-requires : tie.Need-text-of-requires
+text-of-requires c κs = search needs
+
+sub-put : tie.Need-sub-put
+sub-put c = search needs
+
+part-put-start : tie.Need-part-put-start
+part-put-start c = search needs
+
+part-put-end : tie.Need-part-put-end
+part-put-end c = search needs
+
+put-requires : tie.Need-put-requires
+put-requires c κs = search needs
+
+same-length : tie.Need-same-length
+same-length c = search needs
+
+returns : tie.Need-returns
+returns c =
+    let text = c .before .before .before .before .before .before .before in
+    let e = rw (toZ-ofZ (text .before .before .fits .z)) at (text .text-of .ensures .1 .0) in
+    rw (lends (text .text-of .result) e (text .text-of .ensures .1 .1 .1)) at (c .before .before .put .ensures)
+
+pub put-number-spec : {M : Type 1} → statement M
+put-number-spec =
+    tie.close
+    (tie.spec
+    text-of-requires
+    sub-put
+    part-put-start
+    part-put-end
+    put-requires
+    same-length
+    returns)

@@ -1,0 +1,73 @@
+-- `lines::questions::question_in` meets its contract: test by test, as the definition has them. Assumes nothing.
+use borrow.Author.Needs.{needs}
+use borrow.Author.Tests.{lt-ltb, le-ltb, eq-eqb, ne-eqb}
+use mathlib.Core.Path.{_∙_, ap}
+use Rattle.lines.specs.Questions.{decodeIn, encodeIn, behindLetter, questionOf}
+use Rattle.lines.proofs.questions.question_in.Statement.{statement}
+use Rattle.lines.proofs.questions.question_in.Tie as tie
+
+returns : tie.Need-returns
+unfolding questionOf
+returns c = simp (lt-ltb _ _ (c .if1 .taken))
+
+field-of-requires : tie.Need-field-of-requires
+field-of-requires c κs = search needs
+
+returns-2 : tie.Need-returns-2
+unfolding questionOf
+returns-2 c =
+    let f = c .before in
+    simp (le-ltb _ _ (f .before .if1 .left), ← f .field-of .ensures, ne-eqb _ _ (c .if2 .taken))
+
+shared-slice-read-letter : tie.Need-shared-slice-read-letter
+shared-slice-read-letter c = search needs
+
+rest-of-requires : tie.Need-rest-of-requires
+rest-of-requires c κs = search needs
+
+decode-in-requires : tie.Need-decode-in-requires
+decode-in-requires c κs = search needs
+
+returns-3 : tie.Need-returns-3
+unfolding questionOf behindLetter
+returns-3 c =
+    let letter = c .before .before in
+    let one = letter .before .before in
+    c .decode-in .ensures ∙ ap decodeIn (c .before .rest-of .ensures)
+    ∙ simp (le-ltb _ _ (one .before .before .if1 .left), ← one .before .field-of .ensures, eq-eqb _ _ (one .if2 .left), eq-eqb _ _ (letter .if3 .taken))
+
+rest-of-requires-2 : tie.Need-rest-of-requires-2
+rest-of-requires-2 c κs = search needs
+
+encode-in-requires : tie.Need-encode-in-requires
+encode-in-requires c κs = search needs
+
+returns-4 : tie.Need-returns-4
+unfolding questionOf behindLetter
+returns-4 c =
+    let letter = c .before .before in
+    let one = letter .before .before .before in
+    c .encode-in .ensures ∙ ap encodeIn (c .before .rest-of2 .ensures)
+    ∙ simp (le-ltb _ _ (one .before .before .if1 .left), ← one .before .field-of .ensures, eq-eqb _ _ (one .if2 .left), ne-eqb _ _ (letter .before .if3 .left), eq-eqb _ _ (letter .if4 .taken))
+
+returns-5 : tie.Need-returns-5
+unfolding questionOf behindLetter
+returns-5 c =
+    let one = c .before .before .before in
+    simp (le-ltb _ _ (one .before .before .if1 .left), ← one .before .field-of .ensures, eq-eqb _ _ (one .if2 .left), ne-eqb _ _ (c .before .if3 .left), ne-eqb _ _ (c .if4 .left))
+
+pub question-in-spec : {M : Type 1} → statement M
+question-in-spec =
+    tie.close
+    (tie.spec
+    returns
+    field-of-requires
+    returns-2
+    shared-slice-read-letter
+    rest-of-requires
+    decode-in-requires
+    returns-3
+    rest-of-requires-2
+    encode-in-requires
+    returns-4
+    returns-5)
