@@ -1,5 +1,5 @@
 //! The list of the sixteen words. A question is `d LAYOUT WORD`, answered by `SECONDS NANOS`, or `e LAYOUT SECONDS NANOS`,
-//! answered by the word; a refusal is `refused N`.
+//! answered by the word; a refusal is `refused N`, and a line that asks nothing is answered by `bad line`.
 //!
 //! The answers are those of the codecs in timeglyph's own src/registry.rs. Its errors have no numbers: `rules` has them.
 
@@ -60,6 +60,7 @@ pub fn encode(layout: i64, seconds: i64, nanos: i64) -> Question {
 pub fn list() -> Vec<Part> {
     let mut numbers = SplitMix::new(SEED);
     vec![
+        example(),
         lists::stamps(stamps::stamps(), line),
         part("numbers outside", word_boundaries::numbers_outside(), line),
         part(
@@ -84,6 +85,17 @@ pub fn list() -> Vec<Part> {
             line,
         ),
     ]
+}
+
+/// Document 01's whole example of the line program, its last line too, which asks nothing.
+fn example() -> Part {
+    let mut example = lists::stamps(stamps::example(), line);
+    example.name = "example of document 01";
+    example.lines.push(Line {
+        question: "x".to_string(),
+        answer: "bad line".to_string(),
+    });
+    example
 }
 
 /// The questions on each layout, in the order of the numbers.

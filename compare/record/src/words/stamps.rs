@@ -1,6 +1,14 @@
-//! Document 01's stamps on the sixteen words, its example of lines, and its traps, with the answers that it gives.
+//! Document 01's example of lines, its stamps on the sixteen words, and its traps, with the answers that it gives.
 
 use super::{decode, encode, Question};
+
+pub fn example() -> Vec<(Question, &'static str)> {
+    vec![
+        (decode(1, 2_162_688), "315532800 0"),
+        (decode(16, 25_920_000), "refused 5"),
+        (encode(16, -2_208_988_800, 5_000_000), "2"),
+    ]
+}
 
 pub fn stamps() -> Vec<(Question, &'static str)> {
     vec![
@@ -23,7 +31,7 @@ pub fn stamps() -> Vec<(Question, &'static str)> {
         (decode(16, -4_294_967_296), "-2209075200 0"),
         (encode(16, -2_208_902_401, 998_333_333), "25919999"),
         (encode(16, -2_208_902_401, 998_333_334), "4294967296"),
-        // The example of the line program, whose first line is the first stamp.
+        // The example's lines again, whose first is the first stamp.
         (decode(16, 25_920_000), "refused 5"),
         (encode(16, -2_208_988_800, 5_000_000), "2"),
         // The traps. A nanosecond before 1970 is 1969-12-31 23:59:59; the last nanosecond of 1899 is the first tick of

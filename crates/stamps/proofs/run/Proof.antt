@@ -1,26 +1,22 @@
--- `replay_words::run` is safe and ends: the buffers keep their lengths, and each turn leaves fewer turns.
--- Assumes nothing.
+-- `stamps::run` is safe and ends: the buffers keep their lengths, and each turn leaves fewer turns. Assumes nothing.
 use mathlib.Core.Path.{_≡_}
 use native.Mathlib.Omega.{arith}
 use lib.ListN.{length}
-use Rattle.replay_words.proofs.run.Statement.{statement}
-use Rattle.replay_words.proofs.run.Tie as tie
+use Rattle.stamps.proofs.run.Statement.{statement}
+use Rattle.stamps.proofs.run.Tie as tie
 
 abbrev Inv-loop : tie.InvT-loop
-Inv-loop held₀ block₀ place₀ turns₀ held block place turns =
-    (length held ≡ length held₀) × (length block ≡ length block₀)
+Inv-loop held₀ block₀ out₀ n₀ turns₀ held block out n turns =
+    (length block ≡ length block₀) × (length out ≡ length out₀)
 
 abbrev μ-loop : tie.MeasureT-loop
-μ-loop held₀ block₀ place₀ turns₀ held block place turns = turns
+μ-loop held₀ block₀ out₀ n₀ turns₀ held block out n turns = turns
 
 loop-holds : tie.Need-loop-holds Inv-loop μ-loop
 loop-holds c = omega arith
 
 turn-requires : tie.Need-turn-requires Inv-loop μ-loop
 turn-requires c κs = omega arith
-
-turns-left-requires : tie.Need-turns-left-requires Inv-loop μ-loop
-turns-left-requires c κs = omega arith
 
 loop-less : tie.Need-loop-less Inv-loop μ-loop
 loop-less c = omega arith
@@ -40,14 +36,4 @@ returns c = omega arith
 pub run-spec : {M : Type 1} → statement M
 run-spec =
     tie.close
-    (tie.spec
-    Inv-loop
-    μ-loop
-    loop-holds
-    turn-requires
-    turns-left-requires
-    loop-less
-    loop-again
-    same-length
-    same-length-2
-    returns)
+    (tie.spec Inv-loop μ-loop loop-holds turn-requires loop-less loop-again same-length same-length-2 returns)
