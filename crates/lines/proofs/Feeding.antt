@@ -12,10 +12,10 @@ use lib.Dec.{eqb}
 use lib.ListN.{length, getD, take, drop, length-append, take-append-drop, drop-of-length-le}
 use lib.Seq.{drop-cons, take-suc, take-at, drop-at, drop-drop, length-take-le}
 use Rattle.blocks.specs.Blocks.{Kept, kept}
-use Rattle.decimal.specs.Write.{Written, written}
+use Rattle.decimal.specs.Write.{Written}
 use Rattle.decimal.proofs.Buffer.{pasted, fits}
 use Rattle.lines.specs.Stream.{holds, lineIn, After, step, then, steps, taken, Feeds}
-use Rattle.lines.proofs.Texts.{length-line}
+use Rattle.lines.proofs.Texts.{Puts, length-line}
 
 -- a byte's text is at most a line's
 either : (t : Bool) (xs : List ℕ) (h k : Kept) → length xs ≤ 42
@@ -68,35 +68,34 @@ module _ (h : Kept) (block old : List ℕ) where
   module _ {bytes out : List ℕ} {n at i : ℕ} (d : Feeding bytes out n at i) where
     pub feed-more : {bytes′ out′ : List ℕ} {n′ at′ : ℕ} → i < length block → at + 48 ≤ length out
         → holds bytes′ n′ ≡ step (holds bytes n) (getD block i 0) .held
-        → at′ ≡ written out at (step (holds bytes n) (getD block i 0) .text) .next
-        → out′ ≡ written out at (step (holds bytes n) (getD block i 0) .text) .bytes
+        → Puts out at (step (holds bytes n) (getD block i 0) .text) at′ out′
         → length out′ ≡ length out → Feeding bytes′ out′ n′ at′ (i + 1)
-    feed-more {bytes′} {out′} {n′} {at′} g room kept next new same =
-        let s = step (holds bytes n) (getD block i 0) in
+    feed-more {bytes′} {out′} {n′} {at′} g room hold put same =
+        let b = getD block i 0 in
+        let s = step (holds bytes n) b in
         let t = s .text in
-        let short = length-step (holds bytes n) (getD block i 0) in
+        let short = length-step (holds bytes n) b in
         let f = fits out at t (omega arith) in
-        let to : at′ ≡ at + length t = next ∙ ap (λ (w : Written). w .next) f in
-        let now : out′ ≡ pasted out at t = new ∙ ap (λ (w : Written). w .bytes) f in
-        let m : length (take at out ++ t) ≡ at + length t =
-        omega (arith, length-append (take at out) t, length-take-le at out (omega arith)) in
-        let text : take at out ++ t ≡ take at′ out′ = rw (to, now, take-at (take at out ++ t) (drop (at + length t) out) (at + length t) m) in
-        let more : taken (holds bytes n) (drop i block) (length old - at)
-        ≡ suc (taken (s .held) (drop (suc i) block) (length old - at - length t)) =
-        rw (drop-cons block i 0 g) (taken-more (holds bytes n) (getD block i 0) (drop (suc i) block) (length old - at) (omega (arith, d .wide))) in
-        let rest : length old - at - length t ≡ length old - at′ = omega arith in
-        let same-left : taken (s .held) (drop (suc i) block) (length old - at - length t)
+        let to : at′ ≡ at + length t = put .0 ∙ ap (λ (w : Written). w .next) f in
+        let now : out′ ≡ pasted out at t = put .1 ∙ ap (λ (w : Written). w .bytes) f in
+        let head = take at out ++ t in
+        let m : length head ≡ at + length t = omega (arith, length-append (take at out) t, length-take-le at out (omega arith)) in
+        let text : head ≡ take at′ out′ = rw (to, now, take-at head (drop (at + length t) out) (at + length t) m) in
+        let room-left : length old - at - length t ≡ length old - at′ = omega arith in
+        let more = taken-more (holds bytes n) b (drop (suc i) block) (length old - at) (omega (arith, d .wide)) in
+        let next = rw (← drop-cons block i 0 g) at more in
+        let after : taken (s .held) (drop (suc i) block) (length old - at - length t)
         ≡ taken (holds bytes′ n′) (drop (i + 1) block) (length old - at′) =
-        λ j. taken (sym kept j) (drop (sym (add-one i) j) block) (rest j) in
+        λ j. taken (sym hold j) (drop (sym (add-one i) j) block) (room-left j) in
         record {
           within = omega arith;
           wide = same ∙ d .wide;
           small = omega (arith, d .wide);
-          so-far = one-more h block i g ∙ rw (d .so-far) (λ j. record { text = text j; held = sym kept j });
+          so-far = one-more h block i g ∙ rw (d .so-far) (λ j. record { text = text j; held = sym hold j });
           tail =
-              rw (to, now, drop-at (take at out ++ t) (drop (at + length t) out) (at + length t) m, ← drop-drop (length t) at out, d .tail)
+              rw (to, now, drop-at head (drop (at + length t) out) (at + length t) m, ← drop-drop (length t) at out, d .tail)
               (drop-drop (length t) at old);
-          left = omega (arith, d .left);
+          left = omega (arith, d .left, next);
         }
 
     -- no more bytes are taken
@@ -114,4 +113,11 @@ module _ (h : Kept) (block old : List ℕ) where
 pub feed-start : (bytes : List ℕ) (n : ℕ) (block out : List ℕ) → Feeding (holds bytes n) block out bytes out n 0 0
 unfolding steps
 feed-start bytes n block out =
-    record { within = omega arith; wide = refl; small = omega arith; so-far = refl; tail = refl; left = simp (unary-clauses, zero-add) }
+    record {
+      within = omega arith;
+      wide = refl;
+      small = omega arith;
+      so-far = refl;
+      tail = refl;
+      left = simp (unary-clauses, zero-add);
+    }

@@ -8,13 +8,13 @@ use native.Mathlib.Omega.{arith}
 use native.Mathlib.Numerals.{add-one}
 use borrow.Author.Tests.{lt-ltb, ne-eqb, ltb-true, ltb-false, le-leb}
 use lib.Dec.{eqb, ltb, leb}
-use lib.ListN.{length, take, length-append, length-set}
+use lib.ListN.{length, take, drop, length-append, length-set}
 use lib.Seq.{length-take-le, take-suc-set}
 use Rattle.blocks.specs.Blocks.{Kept, kept}
 use Rattle.lines.specs.Questions.{questionOf}
 use Rattle.lines.specs.Answers.{badLine, answerText, lineText}
-use Rattle.lines.specs.Stream.{holds, lineIn, step, steps, taken, lastText}
-use Rattle.lines.specs.Promises.{linesBehind, answersTo, outputOf, inBlocks, joined, whole, AnyBlocks, Progress}
+use Rattle.lines.specs.Stream.{holds, lineIn, After, step, steps, taken, lastText}
+use Rattle.lines.specs.Promises.{linesBehind, answersTo, outputOf, inBlocks, joined, whole, AnyBlocks, Progress, OneAnswer}
 use Rattle.lines.proofs.Feeding.{in-parts}
 
 -- blocks leave what their bytes as one input leave
@@ -112,3 +112,14 @@ pub progress : Progress
 unfolding taken
 progress h [] room l some = absurd (omega arith)
 progress h (b ∷ bs) room l some = (simp (le-leb 48 room l) (omega arith), no-more h (b ∷ bs) room)
+
+pub one-answer : OneAnswer
+one-answer h block out r s bytes others new other p q =
+    let taking = p .took ∙ sym (q .took) in
+    let after : steps h (take (r .taken) block) ≡ steps h (take (s .taken) block) = ap (λ (k : ℕ). steps h (take k block)) taking in
+    let held = p .keeps ∙ ap (λ (a : After). a .held) after ∙ sym (q .keeps) in
+    let wrote = p .wrote ∙ ap (λ (a : After). length (a .text)) after ∙ sym (q .wrote) in (
+      (λ i. record { taken = taking i; held = held i .count; wrote = wrote i }),
+      ap (λ (k : Kept). k .bytes) held,
+      p .text ∙ (λ i. after i .text ++ drop (wrote i) out) ∙ sym (q .text),
+    )

@@ -7,7 +7,8 @@ use lib.Dec.{eqb}
 use lib.ListN.{length}
 use Rattle.blocks.specs.Blocks.{Kept}
 use Rattle.lines.specs.Answers.{lineText}
-use Rattle.lines.specs.Stream.{holds, After, then, steps, taken, lastText}
+use Rattle.lines.specs.Stream.{holds, After, then, steps, taken, Feeds, lastText}
+use Rattle.lines.specs.declared.stream.Fed.{Fed}
 
 -- ---- the whole input
 
@@ -56,3 +57,10 @@ abbrev pub Progress : Type 0
 Progress =
     (h : Kept) (block : List ℕ) (room : ℕ) → 48 ≤ room → 0 < length block
     → (0 < taken h block room) × (taken h block room ≤ length block)
+
+-- one answer: all that the contract of `feed` allows, of its answer and of the bytes that it was lent, is equal. The other
+-- contracts say `≡` themselves
+abbrev pub OneAnswer : Type 0
+OneAnswer =
+    (h : Kept) (block out : List ℕ) (r s : Fed) (bytes others new other : List ℕ) → Feeds h block out r bytes new
+    → Feeds h block out s others other → (r ≡ s) × (bytes ≡ others) × (new ≡ other)

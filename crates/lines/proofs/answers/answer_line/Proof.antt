@@ -1,32 +1,26 @@
 -- `lines::answers::answer_line` meets its contract: where there is room, the LF stands behind the answer. Assumes nothing.
 use borrow.Author.Needs.{needs}
-use Prim.Native.Nat.{_+_, _≤_, _<_}
+use mathlib.Core.Path.{refl}
 use mathlib.Core.List.{[], _∷_}
 use native.Mathlib.Omega.{arith}
-use borrow.Author.Tests.{le-leb, lt-leb}
-use lib.ListN.{length, length-append}
 use Rattle.lines.specs.Questions.{questionOf}
-use Rattle.lines.specs.Answers.{answerText, lineText, placed}
-use Rattle.lines.proofs.Texts.{puts-then, length-answer}
+use Rattle.lines.specs.Answers.{answerText, lineText}
+use Rattle.lines.proofs.Texts.{puts-then, placed-room, placed-full, length-line}
 use Rattle.lines.proofs.answers.answer_line.Statement.{statement}
 use Rattle.lines.proofs.answers.answer_line.Tie as tie
 
 returns : tie.Need-returns
-unfolding placed
 returns c =
     let a = c .before .before .before .args in
-    let h : length (a .out .now) < a .at + 48 = omega arith in
-    (simp (lt-leb _ _ h), simp (lt-leb _ _ h))
+    rw (placed-full (a .out .now) (a .at) _ (omega arith)) (refl, refl)
 
 sub-if2 : tie.Need-sub-if2
 sub-if2 c = search needs
 
 returns-2 : tie.Need-returns-2
-unfolding placed
 returns-2 c =
     let a = c .before .before .before .before .args in
-    let h : length (a .out .now) < a .at + 48 = omega arith in
-    (simp (lt-leb _ _ h), simp (lt-leb _ _ h))
+    rw (placed-full (a .out .now) (a .at) _ (omega arith)) (refl, refl)
 
 question-in-requires : tie.Need-question-in-requires
 question-in-requires c κs = search needs
@@ -44,16 +38,16 @@ same-length : tie.Need-same-length
 same-length c = search needs
 
 returns-3 : tie.Need-returns-3
-unfolding placed lineText
+unfolding lineText
 returns-3 c =
     let answer = c .before .before .before .before .before .before .before in
     let start = answer .before .before .before .before .before .before .before in
     let a = start .args in
     let q = answer .before .question-in in
-    let h : a .at + 48 ≤ length (a .out .now) = omega arith in
     let text = answerText (questionOf (a .line .now)) in
-    rw (le-leb _ _ h)
-    (puts-then (a .out .now) (a .at) text (10 ∷ []) (omega (arith, length-answer (questionOf (a .line .now)), length-append text (10 ∷ []))) (rw (q .ensures) at (answer .put-answer .ensures)) (c .before .before .put .ensures))
+    rw (placed-room (a .out .now) (a .at) _ (omega arith))
+    (puts-then (a .out .now) (a .at) text (10 ∷ []) (omega (arith, length-line (a .line .now))) (rw (q .ensures) at (answer .put-answer .ensures))
+    (c .before .before .put .ensures))
 
 pub answer-line-spec : {M : Type 1} → statement M
 answer-line-spec =

@@ -77,8 +77,10 @@ returns-2 c =
     let nanos = toZ-ofZ {w = w64} {z = q .0 .1 .1 .0} (nanos-fit (n .before)) in
     let s = rw seconds at (t .new .ensures .0) in
     let k = t .new .ensures .1 ∙ (rw nanos at (n .narrow2 .ensures)) in
-    let instant : t .new .result ≡ record { seconds = q .0 .1 .0; nanos = narrowed (q .0 .1 .1 .0) 4294967295 } = λ i. record { seconds = s i; nanos = k i } in
-    rw (q .1) (rw (rw (rw layout at (l .narrow3 .ensures), instant) at (e .encode .ensures)) at (c .before .before .put-encoded .ensures))
+    let instant : t .new .result ≡ record { seconds = q .0 .1 .0; nanos = narrowed (q .0 .1 .1 .0) 4294967295 } =
+    λ i. record { seconds = s i; nanos = k i } in
+    let word = rw (rw layout at (l .narrow3 .ensures), instant) at (e .encode .ensures) in
+    rw (q .1) (rw word at (c .before .before .put-encoded .ensures))
 
 same-length-3 : tie.Need-same-length-3
 same-length-3 c = search needs

@@ -39,11 +39,12 @@ returns c =
     let start = seconds .before .before .before .before in
     let t = start .args .instant in
     let e = toZ-ofZ {w = w64} {z = t .seconds} (search needs) in
-    let first = showInt (t .seconds) in
+    let head = showInt (t .seconds) ++ (32 ∷ []) in
     let last = showInt (pos (t .nanos)) in
-    puts-then (start .args .out .now) (start .args .at) (first ++ (32 ∷ [])) last (omega (arith, length-instant t))
-    (puts-then (start .args .out .now) (start .args .at) first (32 ∷ []) (omega (arith, length-instant t, length-append (first ++ (32 ∷ [])) last)) (rw e at (seconds .put-number .ensures)) (space .put .ensures))
-    (rw (toZ-pos w64 {n = t .nanos} (search needs)) at (nanos .put-number2 .ensures))
+    let out = start .args .out .now in
+    let at = start .args .at in
+    let two = puts-then out at (showInt (t .seconds)) (32 ∷ []) (omega (arith, length-instant t, length-append head last)) (rw e at (seconds .put-number .ensures)) (space .put .ensures) in
+    puts-then out at head last (omega (arith, length-instant t)) two (rw (toZ-pos w64 {n = t .nanos} (search needs)) at (nanos .put-number2 .ensures))
 
 pub put-instant-spec : {M : Type 1} → statement M
 put-instant-spec =

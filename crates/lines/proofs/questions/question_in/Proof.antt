@@ -1,7 +1,9 @@
 -- `lines::questions::question_in` meets its contract: test by test, as the definition has them. Assumes nothing.
 use borrow.Author.Needs.{needs}
 use borrow.Author.Tests.{lt-ltb, le-ltb, eq-eqb, ne-eqb}
-use mathlib.Core.Path.{_∙_, ap}
+use mathlib.Core.Path.{_≡_, ap, _∙_}
+use lib.ListN.{getD}
+use Rattle.decimal.specs.Fields.{rest}
 use Rattle.lines.specs.Questions.{decodeIn, encodeIn, behindLetter, questionOf}
 use Rattle.lines.proofs.questions.question_in.Statement.{statement}
 use Rattle.lines.proofs.questions.question_in.Tie as tie
@@ -22,6 +24,13 @@ returns-2 c =
 shared-slice-read-letter : tie.Need-shared-slice-read-letter
 shared-slice-read-letter c = search needs
 
+-- a short line whose first field is one letter
+letter-first : (c : tie.Else2)
+    → questionOf (c .before .before .before .before .args .line .now)
+    ≡ behindLetter (getD (c .before .field-of .result .now) 0 0) (rest (c .before .before .before .before .args .line .now))
+unfolding questionOf
+letter-first c = simp (le-ltb _ _ (c .before .before .if1 .left), ← c .before .field-of .ensures, eq-eqb _ _ (c .if2 .left))
+
 rest-of-requires : tie.Need-rest-of-requires
 rest-of-requires c κs = search needs
 
@@ -29,12 +38,11 @@ decode-in-requires : tie.Need-decode-in-requires
 decode-in-requires c κs = search needs
 
 returns-3 : tie.Need-returns-3
-unfolding questionOf behindLetter
+unfolding behindLetter
 returns-3 c =
     let letter = c .before .before in
-    let one = letter .before .before in
     c .decode-in .ensures ∙ ap decodeIn (c .before .rest-of .ensures)
-    ∙ simp (le-ltb _ _ (one .before .before .if1 .left), ← one .before .field-of .ensures, eq-eqb _ _ (one .if2 .left), eq-eqb _ _ (letter .if3 .taken))
+    ∙ rw (letter-first (letter .before .before)) (simp (eq-eqb _ _ (letter .if3 .taken)))
 
 rest-of-requires-2 : tie.Need-rest-of-requires-2
 rest-of-requires-2 c κs = search needs
@@ -43,18 +51,15 @@ encode-in-requires : tie.Need-encode-in-requires
 encode-in-requires c κs = search needs
 
 returns-4 : tie.Need-returns-4
-unfolding questionOf behindLetter
+unfolding behindLetter
 returns-4 c =
     let letter = c .before .before in
-    let one = letter .before .before .before in
     c .encode-in .ensures ∙ ap encodeIn (c .before .rest-of2 .ensures)
-    ∙ simp (le-ltb _ _ (one .before .before .if1 .left), ← one .before .field-of .ensures, eq-eqb _ _ (one .if2 .left), ne-eqb _ _ (letter .before .if3 .left), eq-eqb _ _ (letter .if4 .taken))
+    ∙ rw (letter-first (letter .before .before .before)) (simp (ne-eqb _ _ (letter .before .if3 .left), eq-eqb _ _ (letter .if4 .taken)))
 
 returns-5 : tie.Need-returns-5
-unfolding questionOf behindLetter
-returns-5 c =
-    let one = c .before .before .before in
-    simp (le-ltb _ _ (one .before .before .if1 .left), ← one .before .field-of .ensures, eq-eqb _ _ (one .if2 .left), ne-eqb _ _ (c .before .if3 .left), ne-eqb _ _ (c .if4 .left))
+unfolding behindLetter
+returns-5 c = rw (letter-first (c .before .before .before)) (simp (ne-eqb _ _ (c .before .if3 .left), ne-eqb _ _ (c .if4 .left)))
 
 pub question-in-spec : {M : Type 1} → statement M
 question-in-spec =

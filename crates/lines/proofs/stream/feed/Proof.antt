@@ -42,7 +42,8 @@ loop-again : tie.Need-loop-again Inv-loop μ-loop
 loop-again c =
     let fed = c .before .before .take-byte in
     let test = c .before .before .before .before .before .before .before in
-    feed-more _ _ _ (test .before .loop .inv) (test .loop-test .taken) (omega arith) (fed .ensures .0) (fed .ensures .1 .0) (fed .ensures .1 .1) (fed .kept .1 .1 .1 .0)
+    feed-more _ _ _ (test .before .loop .inv) (test .loop-test .taken) (omega arith) (fed .ensures .0) (fed .ensures .1)
+    (fed .kept .1 .1 .1 .0)
 
 same-length-2 : tie.Need-same-length-2 Inv-loop μ-loop
 same-length-2 c = c .before .loop .inv .wide

@@ -22,8 +22,9 @@ unfolding step
 returns c =
     let line = c .before .before .before .before in
     let start = line .before .before .before .before .before in
-    let e = rw (line .first .ensures, placed-room (start .args .out .now) (start .args .at) _ (omega arith)) at (c .before .before .answer-line .ensures) in
-    simp (eq-eqb _ _ (line .before .before .before .if1 .taken)) (refl, e)
+    let out = start .args .out .now in
+    simp (eq-eqb _ _ (line .before .before .before .if1 .taken))
+    (refl, rw (line .first .ensures, placed-room out (start .args .at) _ (omega arith)) at (c .before .before .answer-line .ensures))
 
 keep-requires : tie.Need-keep-requires
 keep-requires c κs = search needs
