@@ -9,15 +9,12 @@ use borrow.Author.Tests.{le-leb, lt-leb}
 use lib.Dec.{leb}
 use lib.IntN.{ℤ, pos}
 use lib.ListN.{length, length-append, take-append-drop}
-use mir.Syntax.{w64}
-use mir.Val.{ofZ}
 use Rattle.refusal.specs.Answers.{Answer, gives, refused}
 use Rattle.civil.specs.declared.instants.Instant.{Instant}
 use Rattle.decimal.specs.Write.{Written, written}
 use Rattle.decimal.proofs.Buffer.{fits, follows}
 use Rattle.decimal.proofs.Writing.{length-int}
-use Rattle.registry.specs.Words.{decodeFor, encodeFor}
-use Rattle.lines.specs.Questions.{questionOf, narrowed}
+use Rattle.lines.specs.Questions.{questionOf}
 use Rattle.lines.specs.Answers.{badLine, refusedText, instantText, decodedText, encodedText, answerText, lineText, placed}
 use Rattle.lines.specs.declared.questions.Question.{Question}
 use Rattle.lines.specs.declared.questions.Question.the-variants as question
@@ -79,9 +76,8 @@ length-encoded (refused n) = omega (arith, length-refused n)
 
 pub length-answer : (q : Question) → length (answerText q) ≤ 41
 unfolding answerText badLine
-length-answer (question.Decode layout word) = length-decoded (decodeFor (narrowed layout 0) (ofZ w64 word))
-length-answer (question.Encode layout seconds nanos) =
-    length-encoded (encodeFor (narrowed layout 0) (record { seconds = seconds; nanos = narrowed nanos 4294967295 }))
+length-answer (question.Decode layout word) = length-decoded _
+length-answer (question.Encode layout seconds nanos) = length-encoded _
 length-answer question.Bad = omega arith
 
 pub length-line : (line : List ℕ) → length (lineText line) ≤ 42

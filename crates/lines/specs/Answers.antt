@@ -36,12 +36,14 @@ unfoldable pub encodedText : Answer ℤ → List ℕ
 encodedText (gives word) = showInt word
 encodedText (refused n) = refusedText n
 
--- what the registry's definitions say. A layout that 32 bits do not hold is 0, which is refused under 1, and such
--- nanoseconds are 2^32 - 1, which is refused under 9
+-- nanoseconds that 32 bits do not hold are 2^32 - 1, which is refused under 9
+abbrev pub instantOf : ℤ → ℤ → Instant
+instantOf seconds nanos = record { seconds = seconds; nanos = narrowed nanos 4294967295 }
+
+-- what the registry's definitions say; a layout that 32 bits do not hold is 0, which is refused under 1
 unfoldable pub answerText : Question → List ℕ
 answerText (question.Decode layout word) = decodedText (decodeFor (narrowed layout 0) (ofZ w64 word))
-answerText (question.Encode layout seconds nanos) =
-    encodedText (encodeFor (narrowed layout 0) (record { seconds = seconds; nanos = narrowed nanos 4294967295 }))
+answerText (question.Encode layout seconds nanos) = encodedText (encodeFor (narrowed layout 0) (instantOf seconds nanos))
 answerText question.Bad = badLine
 
 -- one line of input to one line of output, which ends in LF
