@@ -2,4 +2,5 @@
 pub mod Narrow
 pub mod Texts
 pub mod Feeding
+pub mod Refusals
 pub mod Promises

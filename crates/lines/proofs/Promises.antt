@@ -12,10 +12,11 @@ use lib.ListN.{length, take, drop, length-append, length-set}
 use lib.Seq.{length-take-le, take-suc-set}
 use Rattle.blocks.specs.Blocks.{Kept, kept}
 use Rattle.lines.specs.Questions.{questionOf}
-use Rattle.lines.specs.Answers.{badLine, answerText, lineText}
+use Rattle.lines.specs.Answers.{badLine, decodedText, encodedText, answerText, lineText}
 use Rattle.lines.specs.Stream.{holds, lineIn, After, step, steps, taken, lastText}
-use Rattle.lines.specs.Promises.{linesBehind, answersTo, outputOf, inBlocks, joined, whole, AnyBlocks, Progress, OneAnswer}
+use Rattle.lines.specs.Promises.{linesBehind, answersTo, outputOf, inBlocks, joined, whole, AnyBlocks, Progress, OneThenNine, OneAnswer}
 use Rattle.lines.proofs.Feeding.{in-parts}
+use Rattle.lines.proofs.Refusals.{no-rule, nine}
 
 -- blocks leave what their bytes as one input leave
 as-one : (h : Kept) (blocks : List (List ℕ)) → inBlocks h blocks ≡ steps h (joined blocks)
@@ -112,6 +113,14 @@ pub progress : Progress
 unfolding taken
 progress h [] room l some = absurd (omega arith)
 progress h (b ∷ bs) room l some = (simp (le-leb 48 room l) (omega arith), no-more h (b ∷ bs) room)
+
+pub one-then-nine : OneThenNine
+unfolding answerText decodedText encodedText
+one-then-nine = (
+  λ layout word h. rw (no-rule layout h),
+  λ layout seconds nanos h. rw (no-rule layout h),
+  λ layout seconds nanos h k. rw (nine layout seconds nanos h k),
+)
 
 pub one-answer : OneAnswer
 one-answer h block out r s bytes others new other p q =

@@ -27,11 +27,12 @@ refusedText n = (114 ∷ 101 ∷ 102 ∷ 117 ∷ 115 ∷ 101 ∷ 100 ∷ 32 ∷ 
 unfoldable pub instantText : Instant → List ℕ
 instantText t = (showInt (t .seconds) ++ (32 ∷ [])) ++ showInt (pos (t .nanos))
 
--- an instant or a word, or why there is none
+-- an instant, or why there is none
 unfoldable pub decodedText : Answer Instant → List ℕ
 decodedText (gives t) = instantText t
 decodedText (refused n) = refusedText n
 
+-- a word, or why there is none
 unfoldable pub encodedText : Answer ℤ → List ℕ
 encodedText (gives word) = showInt word
 encodedText (refused n) = refusedText n

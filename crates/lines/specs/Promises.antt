@@ -1,13 +1,15 @@
--- What holds of the stream. Each is proved in proofs/Promises.antt.
+-- What holds of the definitions. Each is proved in proofs/Promises.antt.
 use Prim.Native.Nat.{ℕ, _≤_, _<_}
 use mathlib.Core.Path.{_≡_}
-use mathlib.Core.Bool.{cond}
+use mathlib.Core.Bool.{Bool, true, false, cond, _||_}
 use mathlib.Core.List.{List, [], _∷_, _++_}
-use lib.Dec.{eqb}
+use lib.Dec.{eqb, ltb}
+use lib.IntN.{ℤ, pos, negsuc}
 use lib.ListN.{length}
 use Rattle.blocks.specs.Blocks.{Kept}
-use Rattle.lines.specs.Answers.{lineText}
+use Rattle.lines.specs.Answers.{refusedText, answerText, lineText}
 use Rattle.lines.specs.Stream.{holds, After, then, steps, taken, Feeds, lastText}
+use Rattle.lines.specs.declared.questions.Question.the-variants as question
 use Rattle.lines.specs.declared.stream.Fed.{Fed}
 
 -- ---- the whole input
@@ -29,11 +31,12 @@ outputOf input = answersTo (linesBehind [] input)
 
 -- ---- the stream
 
--- blocks, one after the other, and their bytes as one input
+-- blocks, one after the other
 unfoldable pub inBlocks : Kept → List (List ℕ) → After
 inBlocks h [] = record { text = []; held = h }
 inBlocks h (block ∷ blocks) = then (steps h block .text) (inBlocks (steps h block .held) blocks)
 
+-- their bytes as one input
 unfoldable pub joined : List (List ℕ) → List ℕ
 joined [] = []
 joined (block ∷ blocks) = block ++ joined blocks
@@ -57,6 +60,20 @@ abbrev pub Progress : Type 0
 Progress =
     (h : Kept) (block : List ℕ) (room : ℕ) → 48 ≤ room → 0 < length block
     → (0 < taken h block room) × (taken h block room ≤ length block)
+
+-- a number that is not one from low to high
+abbrev pub outside : ℕ → ℕ → ℤ → Bool
+outside low high (pos n) = ltb n low || ltb high n
+outside low high (negsuc n) = true
+
+-- a LAYOUT outside 1 to 16 is refused under 1, whatever else the line says, and then NANOS outside 0 to 999,999,999 under 9
+abbrev pub OneThenNine : Type 0
+OneThenNine =
+    ((layout word : ℤ) → outside 1 16 layout ≡ true → answerText (question.Decode layout word) ≡ refusedText 1)
+    × ((layout seconds nanos : ℤ) → outside 1 16 layout ≡ true
+    → answerText (question.Encode layout seconds nanos) ≡ refusedText 1)
+    × ((layout seconds nanos : ℤ) → outside 1 16 layout ≡ false → outside 0 999999999 nanos ≡ true
+    → answerText (question.Encode layout seconds nanos) ≡ refusedText 9)
 
 -- one answer: all that the contract of `feed` allows, of its answer and of the bytes that it was lent, is equal. The other
 -- contracts say `≡` themselves

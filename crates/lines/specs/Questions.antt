@@ -12,19 +12,20 @@ use Rattle.decimal.specs.declared.read.Number.the-variants as number
 use Rattle.lines.specs.declared.questions.Question.{Question}
 use Rattle.lines.specs.declared.questions.Question.the-variants as question
 
--- two numbers, or three
+-- a layout and a word, where both are numbers
 unfoldable pub asksDecode : Number → Number → Question
 asksDecode (number.Is layout) (number.Is word) = question.Decode layout word
 asksDecode (number.Is layout) number.Not = question.Bad
 asksDecode number.Not word = question.Bad
 
+-- a layout, seconds and nanoseconds, where all three are numbers
 unfoldable pub asksEncode : Number → Number → Number → Question
 asksEncode (number.Is layout) (number.Is seconds) (number.Is nanos) = question.Encode layout seconds nanos
 asksEncode (number.Is layout) (number.Is seconds) number.Not = question.Bad
 asksEncode (number.Is layout) number.Not nanos = question.Bad
 asksEncode number.Not seconds nanos = question.Bad
 
--- LAYOUT WORD
+-- LAYOUT WORD: what is left behind the one space is one number, so that another space spoils it
 unfoldable pub decodeIn : List ℕ → Question
 decodeIn text = asksDecode (numberOf (field text)) (numberOf (rest text))
 

@@ -9,10 +9,11 @@ use Rattle.blocks.specs.Blocks.{Kept, kept}
 use Rattle.lines.specs.Answers.{lineText}
 use Rattle.lines.specs.declared.stream.Fed.{Fed}
 
--- the first n of some bytes are held: they are the line that is not finished
+-- the first n of some bytes are held
 abbrev pub holds : List ℕ → ℕ → Kept
 holds bytes n = record { bytes = bytes; count = n }
 
+-- what is held is the line that is not finished
 abbrev pub lineIn : Kept → List ℕ
 lineIn h = take (h .count) (h .bytes)
 
