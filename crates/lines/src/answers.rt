@@ -37,6 +37,7 @@ fn narrow(z: i64, other: u32) -> u32
     bits as u32
 }
 
+// z in decimal.
 fn put_number(out: &mut [u8], at: usize, z: i64) -> usize
     ensures { λ r. ⌜ r ≡ written (now (out .entry)) at (showInt z) .next ⌝ }
     ensures { λ r. ⌜ now (out .exit) ≡ written (now (out .entry)) at (showInt z) .bytes ⌝ }
@@ -47,6 +48,7 @@ fn put_number(out: &mut [u8], at: usize, z: i64) -> usize
     put(out, at, &bytes[from..])
 }
 
+// The answer to a line that asks nothing.
 fn put_bad_line(out: &mut [u8], at: usize) -> usize
     ensures { λ r. ⌜ r ≡ written (now (out .entry)) at badLine .next ⌝ }
     ensures { λ r. ⌜ now (out .exit) ≡ written (now (out .entry)) at badLine .bytes ⌝ }
@@ -54,6 +56,7 @@ fn put_bad_line(out: &mut [u8], at: usize) -> usize
     put(out, at, b"bad line")
 }
 
+// A refusal, by its number.
 fn put_refused(out: &mut [u8], at: usize, why: Refusal) -> usize
     requires { ⌜ at + 48 ≤ length (now out) ⌝ }
     ensures { λ r. ⌜ r ≡ written (now (out .entry)) at (refusedText (why .number)) .next ⌝ }
@@ -63,6 +66,7 @@ fn put_refused(out: &mut [u8], at: usize, why: Refusal) -> usize
     put_number(out, to, why.number as i64)
 }
 
+// Seconds and nanoseconds.
 fn put_instant(out: &mut [u8], at: usize, instant: Instant) -> usize
     requires { ⌜ at + 48 ≤ length (now out) ⌝ }
     ensures { λ r. ⌜ r ≡ written (now (out .entry)) at (instantText instant) .next ⌝ }
@@ -73,6 +77,7 @@ fn put_instant(out: &mut [u8], at: usize, instant: Instant) -> usize
     put_number(out, nanos, instant.nanos as i64)
 }
 
+// What a word says.
 fn put_decoded(out: &mut [u8], at: usize, answer: Decoded) -> usize
     requires { ⌜ at + 48 ≤ length (now out) ⌝ }
     ensures { λ r. ⌜ r ≡ written (now (out .entry)) at (decodedText (readDecoded answer)) .next ⌝ }
@@ -84,6 +89,7 @@ fn put_decoded(out: &mut [u8], at: usize, answer: Decoded) -> usize
     }
 }
 
+// The word of an instant.
 fn put_encoded(out: &mut [u8], at: usize, answer: Encoded) -> usize
     requires { ⌜ at + 48 ≤ length (now out) ⌝ }
     ensures { λ r. ⌜ r ≡ written (now (out .entry)) at (encodedText (readEncoded answer)) .next ⌝ }
@@ -95,6 +101,7 @@ fn put_encoded(out: &mut [u8], at: usize, answer: Encoded) -> usize
     }
 }
 
+// The answer to a question, without an LF.
 fn put_answer(out: &mut [u8], at: usize, question: Question) -> usize
     requires { ⌜ at + 48 ≤ length (now out) ⌝ }
     ensures { λ r. ⌜ r ≡ written (now (out .entry)) at (answerText question) .next ⌝ }

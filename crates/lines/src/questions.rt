@@ -16,6 +16,7 @@ pub enum Question {
     Bad,
 }
 
+// A question on a word, where both are numbers.
 fn asks_decode(layout: Number, word: Number) -> Question
     ensures { λ r. ⌜ r ≡ asksDecode layout word ⌝ }
 {
@@ -28,6 +29,7 @@ fn asks_decode(layout: Number, word: Number) -> Question
     Question::Decode(layout_number, word_number)
 }
 
+// A question on an instant, where all three are numbers.
 fn asks_encode(layout: Number, seconds: Number, nanos: Number) -> Question
     ensures { λ r. ⌜ r ≡ asksEncode layout seconds nanos ⌝ }
 {
