@@ -4,7 +4,7 @@
 // No public function has a `requires`.
 ghost use mathlib.Core.Path.{_≡_};
 ghost use Prim.Native.Nat.{_≤_, _-_};
-ghost use lib.ListN.{take, getD};
+ghost use lib.ListN.{take};
 ghost use Rattle.blocks.specs.Blocks.{kept, left};
 
 // Where a reader stands: how many bytes of the line it holds, and how many of its block's bytes it has used, of how many.
@@ -22,16 +22,6 @@ pub fn first(s: &[u8], n: usize) -> &[u8]
         return s;
     }
     &s[..n]
-}
-
-// Byte k of s: 0 where it has fewer.
-pub fn byte_at(s: &[u8], k: usize) -> u8
-    ensures { λ r. ⌜ r ≡ getD (now (s .entry)) k 0 ⌝ }
-{
-    if k < s.len() {
-        return s[k];
-    }
-    0
 }
 
 // Holds a byte behind the n that are held, and answers how many are held then. A byte for which there is no room is

@@ -1,4 +1,4 @@
-//! The list of crates/replay_words: questions on words and instants, and the answers that were recorded from the Rust.
+//! The list of crates/stamps: questions on words and instants, and the answers that were recorded from the Rust.
 
 use sleetrick::{Instant, Refusal};
 use std::fs;
@@ -14,7 +14,7 @@ pub struct Question<In, Out> {
 pub struct List {
     pub words: Vec<Question<i64, Instant>>,
     pub instants: Vec<Question<Instant, i64>>,
-    /// Lines with a layout number or nanoseconds that are no u32, so that they can't be asked here.
+    /// Lines that can't be asked here: a bad line, and those with a layout number or nanoseconds that are no u32.
     pub left_out: usize,
 }
 
@@ -26,7 +26,7 @@ pub fn recorded() -> List {
     };
     let (questions, answers) = (text("stdin"), text("stdout"));
     for (question, answer) in questions.lines().zip(answers.lines()) {
-        if list.take(question, answer).is_none() {
+        if answer == "bad line" || list.take(question, answer).is_none() {
             list.left_out += 1;
         }
     }
@@ -69,8 +69,8 @@ fn instant(seconds: i64, nanos: i64) -> Option<Instant> {
 }
 
 fn text(name: &str) -> String {
-    let folder = Path::new(env!("CARGO_MANIFEST_DIR")).join("../crates/replay_words");
-    fs::read_to_string(folder.join(name)).expect("the list stands in crates/replay_words")
+    let folder = Path::new(env!("CARGO_MANIFEST_DIR")).join("../crates/stamps");
+    fs::read_to_string(folder.join(name)).expect("the list stands in crates/stamps")
 }
 
 fn refused_or<Out>(answer: &str, value: impl Fn(&str) -> Out) -> Result<Out, Refusal> {
