@@ -11,26 +11,50 @@ const LAST: i64 = 2_524_607_999;
 
 pub fn table() {
     let instants = rows::instants(FIRST, LAST);
+    let mut layouts: Vec<Layout> = (1..=16)
+        .map(|number| Layout::new(number, &instants))
+        .collect();
+    let mut room = Room {
+        decoded: room_for_instants(),
+        counts: room_for_counts(),
+        encoded: room_for_words(),
+    };
+    // All layouts in each round: what disturbs the machine for a second disturbs one round of each.
+    for _ in 0..ROUNDS {
+        for layout in &mut layouts {
+            layout.round(&instants, &mut room);
+        }
+    }
     println!(
         "| layout | decoding: Rust | (its counts) | ours | ratio | encoding: Rust | ours | ratio |"
     );
     println!("|---|---|---|---|---|---|---|---|");
-    for layout in 1..=16 {
-        let times = Times::of(layout, &instants);
+    for layout in &layouts {
         println!(
-            "| {layout} | {:.1} | ({:.1}) | {:.1} | {:.2} | {:.1} | {:.1} | {:.2} |",
-            times.rust_decodes.a_row(),
-            times.rust_counts.a_row(),
-            times.decodes.a_row(),
-            times.rust_decodes.a_row() / times.decodes.a_row(),
-            times.rust_encodes.a_row(),
-            times.encodes.a_row(),
-            times.rust_encodes.a_row() / times.encodes.a_row(),
+            "| {} | {:.1} | ({:.1}) | {:.1} | {:.2} | {:.1} | {:.1} | {:.2} |",
+            layout.number,
+            layout.rust_decodes.a_row(),
+            layout.rust_counts.a_row(),
+            layout.decodes.a_row(),
+            layout.rust_decodes.a_row() / layout.decodes.a_row(),
+            layout.rust_encodes.a_row(),
+            layout.encodes.a_row(),
+            layout.rust_encodes.a_row() / layout.encodes.a_row(),
         );
     }
 }
 
-struct Times {
+/// Where results are written.
+struct Room {
+    decoded: Vec<u8>,
+    counts: Vec<i128>,
+    encoded: Vec<u8>,
+}
+
+/// A layout, the words of the instants in it, and the best times so far.
+struct Layout {
+    number: u32,
+    words: Vec<u8>,
     rust_decodes: Best,
     rust_counts: Best,
     decodes: Best,
@@ -38,33 +62,30 @@ struct Times {
     encodes: Best,
 }
 
-impl Times {
-    fn of(layout: u32, instants: &[u8]) -> Times {
-        let words = agreed::words(layout, instants);
-        let codec = timeglyph::codec(layout.into());
-        let mut times = Times {
+impl Layout {
+    fn new(number: u32, instants: &[u8]) -> Layout {
+        Layout {
+            number,
+            words: agreed::words(number, instants),
             rust_decodes: Best::new(),
             rust_counts: Best::new(),
             decodes: Best::new(),
             rust_encodes: Best::new(),
             encodes: Best::new(),
-        };
-        let mut decoded = room_for_instants();
-        let mut counts = room_for_counts();
-        let mut encoded = room_for_words();
-        let t = &mut times;
-        for _ in 0..ROUNDS {
-            t.rust_decodes
-                .time(|| rust_side::decode_column(codec, &words, &mut decoded));
-            t.rust_counts
-                .time(|| rust_side::decode_to_counts(codec, &words, &mut counts));
-            t.decodes
-                .time(|| decode_column(layout, &words, &mut decoded).rows());
-            t.rust_encodes
-                .time(|| rust_side::encode_column(codec, instants, &mut encoded));
-            t.encodes
-                .time(|| encode_column(layout, instants, &mut encoded).rows());
         }
-        times
+    }
+
+    fn round(&mut self, instants: &[u8], room: &mut Room) {
+        let codec = timeglyph::codec(self.number.into());
+        self.rust_decodes
+            .time(|| rust_side::decode_column(codec, &self.words, &mut room.decoded));
+        self.rust_counts
+            .time(|| rust_side::decode_to_counts(codec, &self.words, &mut room.counts));
+        self.decodes
+            .time(|| decode_column(self.number, &self.words, &mut room.decoded).rows());
+        self.rust_encodes
+            .time(|| rust_side::encode_column(codec, instants, &mut room.encoded));
+        self.encodes
+            .time(|| encode_column(self.number, instants, &mut room.encoded).rows());
     }
 }

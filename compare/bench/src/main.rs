@@ -13,7 +13,7 @@ mod years;
 mod splitmix;
 
 /// How often each column is timed. The best time counts: whatever else the machine does can only add to it.
-const ROUNDS: usize = 14;
+const ROUNDS: usize = 30;
 
 fn main() {
     println!(
