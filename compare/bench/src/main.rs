@@ -8,10 +8,6 @@ mod rows;
 mod rust_side;
 mod years;
 
-#[allow(dead_code)]
-#[path = "../../splitmix.rs"]
-mod splitmix;
-
 /// How often each column is timed. The best time counts: whatever else the machine does can only add to it.
 const ROUNDS: usize = 30;
 

@@ -1,6 +1,6 @@
 //! The columns that are timed, in bytes.
 
-use crate::splitmix::SplitMix;
+use questions::splitmix::SplitMix;
 use sleetrick::{INSTANT_BYTES, MOST_ROWS, WORD_BYTES};
 use std::hint::black_box;
 

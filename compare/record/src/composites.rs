@@ -1,78 +1,21 @@
-//! The list of the composites. A question is a letter and two numbers, or a letter and a stamp, whose bytes are pairs of
-//! lower-case hex digits; it is answered by `SECONDS NANOS` or by `refused N`:
-//!
-//! | question | asks |
-//! |---|---|
-//! | `f LOW HIGH` | `filetime_hilo`, of two u32 |
-//! | `v HIGH LOW` | `vmsd`, of two i32 |
-//! | `u SECONDS NANOS` | `unix_sec_nsec`, of an i64 and a u32 |
-//! | `o HEX` | `oracle_date` |
-//! | `c HEX` | `cp56time2a` |
-//! | `t HEX` | `udf` |
-//!
-//! A line that asks nothing is answered by `bad line`, and a number that its call's type can't hold asks nothing.
+//! The list of the composites: questions as `questions::composites` has them, each answered by `SECONDS NANOS` or by
+//! `refused N`. A line that asks nothing is answered by `bad line`, and a number that its call's type can't hold asks nothing.
 //!
 //! The answers are those of timeglyph's own src/compose.rs. Its errors have no numbers: `rules` has them.
 
 mod bad_lines;
-mod number_boundaries;
 mod random;
 mod rules;
-mod stamp_boundaries;
 mod stamps;
-mod written;
 
 pub use random::SEED;
 
-use crate::lists::{self, instant, once, part, Line, Part};
-use crate::splitmix::SplitMix;
+use crate::lists::{self, part, Line, Part};
+use questions::composites::{each, number_boundaries, stamp_boundaries, Question};
+use questions::once;
+use questions::rust_side::instant;
+use questions::splitmix::SplitMix;
 use rules::Refused;
-use std::fmt;
-use written::Written;
-
-/// Numbers are as wide as a line's, and a stamp has any length, so that they need not be good.
-#[derive(Clone, PartialEq, Eq, Hash)]
-pub enum Question {
-    Filetime { low: i64, high: i64 },
-    Vmsd { high: i64, low: i64 },
-    UnixSecNsec { seconds: i64, nanos: i64 },
-    Stamp { written: Written, bytes: Vec<u8> },
-    None(String),
-}
-
-impl fmt::Display for Question {
-    fn fmt(&self, out: &mut fmt::Formatter) -> fmt::Result {
-        match self {
-            Question::Filetime { low, high } => write!(out, "f {low} {high}"),
-            Question::Vmsd { high, low } => write!(out, "v {high} {low}"),
-            Question::UnixSecNsec { seconds, nanos } => write!(out, "u {seconds} {nanos}"),
-            Question::Stamp { written, bytes } => {
-                write!(out, "{} ", written.letter())?;
-                bytes.iter().try_for_each(|byte| write!(out, "{byte:02x}"))
-            }
-            Question::None(text) => write!(out, "{text}"),
-        }
-    }
-}
-
-pub fn filetime(low: i64, high: i64) -> Question {
-    Question::Filetime { low, high }
-}
-
-pub fn vmsd(high: i64, low: i64) -> Question {
-    Question::Vmsd { high, low }
-}
-
-pub fn unix_sec_nsec(seconds: i64, nanos: i64) -> Question {
-    Question::UnixSecNsec { seconds, nanos }
-}
-
-pub fn stamp(written: Written, bytes: &[u8]) -> Question {
-    Question::Stamp {
-        written,
-        bytes: bytes.to_vec(),
-    }
-}
 
 pub fn list() -> Vec<Part> {
     let mut numbers = SplitMix::new(SEED);
@@ -97,11 +40,6 @@ pub fn list() -> Vec<Part> {
             line,
         ),
     ]
-}
-
-/// The questions on each kind of byte stamp.
-fn each(questions: impl FnMut(Written) -> Vec<Question>) -> Vec<Question> {
-    Written::ALL.into_iter().flat_map(questions).collect()
 }
 
 fn line(question: &Question) -> Line {

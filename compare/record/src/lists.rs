@@ -1,10 +1,4 @@
-//! What a list is made of: lines in parts, and how the Rust's counts are written in them.
-
-use std::collections::HashSet;
-use std::hash::Hash;
-use timeglyph::PosixNs;
-
-pub const NANOSECONDS_PER_SECOND: i128 = 1_000_000_000;
+//! What a list is made of: lines in parts.
 
 /// A question and the answer to it, each a line without its LF.
 pub struct Line {
@@ -33,20 +27,4 @@ pub fn stamps<Q>(stamps: Vec<(Q, &'static str)>, line: impl Fn(&Q) -> Line) -> P
         assert_eq!(line.answer, answer, "document 01 on {}", line.question);
     }
     part
-}
-
-/// Without those that came before.
-pub fn once<Q: Clone + Eq + Hash>(questions: Vec<Q>) -> Vec<Q> {
-    let mut seen = HashSet::new();
-    questions
-        .into_iter()
-        .filter(|question| seen.insert(question.clone()))
-        .collect()
-}
-
-/// A count of nanoseconds since 1970 as `SECONDS NANOS`.
-pub fn instant(count: &PosixNs) -> String {
-    let seconds = count.0.div_euclid(NANOSECONDS_PER_SECOND);
-    let nanos = count.0.rem_euclid(NANOSECONDS_PER_SECOND);
-    format!("{seconds} {nanos}")
 }

@@ -4,11 +4,10 @@
 mod calendar;
 mod composites;
 mod lists;
-#[path = "../../splitmix.rs"]
-mod splitmix;
 mod words;
 
 use lists::{Line, Part};
+use questions::calendar::jiff_tests_its_window;
 use std::collections::BTreeMap;
 use std::path::Path;
 use std::{env, fs, io, process};
@@ -22,7 +21,7 @@ fn main() {
         usage()
     };
     assert!(
-        calendar::jiff_tests_its_window(),
+        jiff_tests_its_window(),
         "this jiff takes nanoseconds outside its own window: no oracle for `refused 6`"
     );
     let (seed, parts) = match list.as_str() {

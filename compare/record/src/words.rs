@@ -3,59 +3,17 @@
 //!
 //! The answers are those of the codecs in timeglyph's own src/registry.rs. Its errors have no numbers: `rules` has them.
 
-mod instant_boundaries;
-mod layouts;
 mod random;
 mod rules;
 mod stamps;
-mod word_boundaries;
 
 pub use random::SEED;
 
-use crate::lists::{self, instant, once, part, Line, Part, NANOSECONDS_PER_SECOND};
-use crate::splitmix::SplitMix;
-use layouts::NUMBERS;
-use std::fmt;
-use timeglyph::{codec, ChronoError, PosixNs};
-
-/// The layout number and the nanoseconds are as wide as a line's numbers, so that they need not be good.
-#[derive(Clone, Copy, PartialEq, Eq, Hash)]
-pub enum Question {
-    Decode {
-        layout: i64,
-        word: i64,
-    },
-    Encode {
-        layout: i64,
-        seconds: i64,
-        nanos: i64,
-    },
-}
-
-impl fmt::Display for Question {
-    fn fmt(&self, out: &mut fmt::Formatter) -> fmt::Result {
-        match self {
-            Question::Decode { layout, word } => write!(out, "d {layout} {word}"),
-            Question::Encode {
-                layout,
-                seconds,
-                nanos,
-            } => write!(out, "e {layout} {seconds} {nanos}"),
-        }
-    }
-}
-
-pub fn decode(layout: i64, word: i64) -> Question {
-    Question::Decode { layout, word }
-}
-
-pub fn encode(layout: i64, seconds: i64, nanos: i64) -> Question {
-    Question::Encode {
-        layout,
-        seconds,
-        nanos,
-    }
-}
+use crate::lists::{self, part, Line, Part};
+use questions::once;
+use questions::rust_side::instant;
+use questions::splitmix::SplitMix;
+use questions::words::{each, instant_boundaries, word_boundaries, Question};
 
 pub fn list() -> Vec<Part> {
     let mut numbers = SplitMix::new(SEED);
@@ -98,11 +56,6 @@ fn example() -> Part {
     example
 }
 
-/// The questions on each layout, in the order of the numbers.
-fn each(questions: impl FnMut(i64) -> Vec<Question>) -> Vec<Question> {
-    NUMBERS.flat_map(questions).collect()
-}
-
 fn line(question: &Question) -> Line {
     let answer = match *question {
         Question::Decode { layout, word } => {
@@ -118,16 +71,4 @@ fn line(question: &Question) -> Line {
         question: question.to_string(),
         answer: answer.unwrap_or_else(|number| format!("refused {number}")),
     }
-}
-
-/// What the Rust makes of a word.
-fn rust_decodes(layout: i64, word: i64) -> Result<PosixNs, ChronoError> {
-    (codec(layout).decode)(word)
-}
-
-/// What the Rust makes of an instant.
-fn rust_encodes(layout: i64, seconds: i64, nanos: i64) -> Result<i64, ChronoError> {
-    let count = i128::from(seconds) * NANOSECONDS_PER_SECOND + i128::from(nanos);
-    let encode = codec(layout).encode.expect("each of the sixteen encodes");
-    encode(PosixNs(count))
 }

@@ -1,6 +1,7 @@
 //! The calendar's boundaries, each asked at its last good value and one step past it.
 
-use super::{midnight, Fields, Question, WINDOW_FIRST, WINDOW_LAST};
+use super::Question;
+use questions::calendar::{midnight, Fields, WINDOW_FIRST, WINDOW_LAST};
 
 /// Years on both sides of the leap rule's cases, of year 0 and of the Gregorian reform, and the two end years.
 const YEARS: [i16; 14] = [

@@ -1,8 +1,9 @@
 //! The calendar's random questions, from the seeded generator.
 
-use super::{midnight, Fields, Question, WINDOW_FIRST, WINDOW_LAST};
-use crate::splitmix::SplitMix;
+use super::Question;
 use jiff::civil::Date;
+use questions::calendar::{midnight, Fields, WINDOW_FIRST, WINDOW_LAST};
+use questions::splitmix::SplitMix;
 
 pub const SEED: u64 = 15_821_015;
 

@@ -1,6 +1,6 @@
 //! Lines that ask nothing by the line rules of document 01, some of them beside a line that does.
 
-use super::Question;
+use questions::composites::Question;
 
 const TEXTS: [&str; 62] = [
     // No question's letter.

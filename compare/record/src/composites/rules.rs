@@ -11,11 +11,10 @@
 //!
 //! The Rust's error has to be of the right kind too: `Render` is jiff's own refusal, for 3, and `OutOfRange` is for 2.
 
-use super::written::Written;
-use super::Question;
-use crate::lists::NANOSECONDS_PER_SECOND;
+use questions::composites::Question;
+use questions::rust_side::{composes, seconds_and_nanos};
 use std::process;
-use timeglyph::{compose, ChronoError, PosixNs};
+use timeglyph::{ChronoError, PosixNs};
 
 const RANGE: u8 = 2;
 const FIELDS: u8 = 3;
@@ -30,45 +29,36 @@ pub enum Refused {
 
 /// The instant that a question is answered by, or why there is none.
 pub fn answer(question: &Question) -> Result<PosixNs, Refused> {
+    let Some(answer) = composes(question) else {
+        return Err(match question {
+            Question::Stamp { .. } => Refused::Number(LENGTH),
+            _ => Refused::Line,
+        });
+    };
     match question {
-        Question::Filetime { low, high } => {
-            let (low, high) = (typed(*low)?, typed::<u32>(*high)?);
-            let expected = (high >> 31 == 1).then_some(RANGE);
-            agreed(question, expected, compose::filetime_hilo(low, high))
+        Question::Filetime { high, .. } => {
+            agreed(question, (high >> 31 == 1).then_some(RANGE), answer)
         }
-        Question::Vmsd { high, low } => {
-            let answer = compose::vmsd(typed(*high)?, typed(*low)?);
-            agreed(question, None, Ok(answer))
+        Question::UnixSecNsec { seconds, nanos } => {
+            carried(question, *seconds, *nanos, agreed(question, None, answer)?)
         }
-        Question::UnixSecNsec { seconds, nanos } => carried(question, *seconds, typed(*nanos)?),
-        Question::Stamp { written, bytes } => {
-            let answer = rust_decodes(*written, bytes).ok_or(Refused::Number(LENGTH))?;
+        Question::Stamp { .. } => {
             let refuses = matches!(answer, Err(ChronoError::Render(_)));
             agreed(question, refuses.then_some(FIELDS), answer)
         }
-        Question::None(_) => Err(Refused::Line),
+        Question::Vmsd { .. } | Question::None(_) => agreed(question, None, answer),
     }
 }
 
-/// A number in its call's type.
-fn typed<T: TryFrom<i64>>(number: i64) -> Result<T, Refused> {
-    T::try_from(number).map_err(|_| Refused::Line)
-}
-
-/// What the Rust makes of a stamp that has the length of its kind.
-fn rust_decodes(written: Written, bytes: &[u8]) -> Option<Result<PosixNs, ChronoError>> {
-    Some(match written {
-        Written::Oracle => compose::oracle_date(bytes.try_into().ok()?),
-        Written::Cp56 => compose::cp56time2a(bytes.try_into().ok()?),
-        Written::Udf => compose::udf(bytes.try_into().ok()?),
-    })
-}
-
 /// Seconds that 64 bits do not hold are the Rust's answer too; there its count is not held to the rule.
-fn carried(question: &Question, seconds: i64, nanos: u32) -> Result<PosixNs, Refused> {
-    let answer = compose::unix_sec_nsec(seconds, nanos);
-    let held = i64::try_from(answer.0.div_euclid(NANOSECONDS_PER_SECOND)).is_ok();
-    let whole_seconds = i64::from(nanos) / 1_000_000_000;
+fn carried(
+    question: &Question,
+    seconds: i64,
+    nanos: i64,
+    answer: PosixNs,
+) -> Result<PosixNs, Refused> {
+    let held = i64::try_from(seconds_and_nanos(&answer).0).is_ok();
+    let whole_seconds = nanos / 1_000_000_000;
     match (seconds.checked_add(whole_seconds).is_some(), held) {
         (true, true) => Ok(answer),
         (false, false) => Err(Refused::Number(CARRY)),

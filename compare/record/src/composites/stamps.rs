@@ -1,7 +1,7 @@
 //! Document 01's stamps on the composites, and what it says of them in words, with the answers that it gives.
 
-use super::written::Written::{Cp56, Oracle, Udf};
-use super::{filetime, stamp, unix_sec_nsec, vmsd, Question};
+use questions::composites::Written::{Cp56, Oracle, Udf};
+use questions::composites::{filetime, stamp, unix_sec_nsec, vmsd, Question};
 
 pub fn stamps() -> Vec<(Question, &'static str)> {
     let udf = |zone: [u8; 2]| {

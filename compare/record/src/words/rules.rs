@@ -20,10 +20,10 @@
 //! The Rust's error has to be of the right kind too: `Render` is jiff's own refusal, for 3 and 6, and `OutOfRange` the
 //! codec's, for the others.
 
-use super::layouts::{Layout, NUMBERS};
-use super::{decode, encode, rust_decodes, rust_encodes, Question};
-use crate::calendar::{fields_of, WINDOW_FIRST, WINDOW_LAST};
-use crate::lists::NANOSECONDS_PER_SECOND;
+use questions::calendar::{fields_of, WINDOW_FIRST, WINDOW_LAST};
+use questions::rust_side::{decodes, encodes, NANOSECONDS_PER_SECOND};
+use questions::words::layouts::{Layout, NUMBERS};
+use questions::words::{decode, encode, Question};
 use std::process;
 use timeglyph::{ChronoError, PosixNs};
 
@@ -44,14 +44,14 @@ pub fn decoding(layout: i64, word: i64) -> Result<PosixNs, u8> {
     if !NUMBERS.contains(&layout) {
         return Err(LAYOUT);
     }
-    let answer = rust_decodes(layout, word);
+    let answer = decodes(layout, word);
     let expected = if !in_range(layout, word) {
         Some(RANGE)
     } else {
         match layout {
             16 => (i128::from(word as u32) >= TICKS_PER_DAY).then_some(TICKS),
             15 => None,
-            14 if refuses_fields(&rust_decodes(layout, word & !0xFF)) => Some(FIELDS),
+            14 if refuses_fields(&decodes(layout, word & !0xFF)) => Some(FIELDS),
             14 => (word >> 4 & 0xF > 9).then_some(ZONE),
             _ => refuses_fields(&answer).then_some(FIELDS),
         }
@@ -73,7 +73,7 @@ pub fn encoding(layout: i64, seconds: i64, nanos: i64) -> Result<i64, u8> {
         _ if !(WINDOW_FIRST..=WINDOW_LAST).contains(&seconds) => Some(WINDOW),
         _ => (!Layout::of(layout).years.contains(&year_of(seconds))).then_some(YEAR),
     };
-    let answer = rust_encodes(layout, seconds, nanos);
+    let answer = encodes(layout, seconds, nanos);
     agreed(encode(layout, seconds, nanos), expected, answer)
 }
 

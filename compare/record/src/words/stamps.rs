@@ -1,6 +1,6 @@
 //! Document 01's example of lines, its stamps on the sixteen words, and its traps, with the answers that it gives.
 
-use super::{decode, encode, Question};
+use questions::words::{decode, encode, Question};
 
 pub fn example() -> Vec<(Question, &'static str)> {
     vec![

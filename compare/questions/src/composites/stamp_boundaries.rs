@@ -1,7 +1,7 @@
 //! The boundaries of byte stamps, each asked on both sides.
 
-use super::written::{Civil, Written};
-use super::{stamp, Question};
+use super::written::Civil;
+use super::{stamp, Question, Written};
 
 /// Good in every kind, and of a month that has 31 days.
 const GOOD: Civil = [2004, 1, 15, 10, 20, 30];
