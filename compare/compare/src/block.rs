@@ -1,0 +1,53 @@
+//! Rows of one layout, both sides asked about every one of them.
+
+use crate::direction::Direction;
+use crate::known::{self, NO_WINDOW};
+use crate::outcome::Outcome;
+use crate::sides::{self, Verdict, FILL};
+
+/// The rows that are asked at a time: as many as a processor's caches hold.
+pub const ROWS: usize = 16_384;
+
+/// Hands on what comes of each row, in their order.
+pub fn compare(
+    direction: Direction,
+    layout: u32,
+    read: &[u8],
+    mut hand_on: impl FnMut(&[u8], Outcome),
+) {
+    let rust = sides::rust(direction, layout, read);
+    let ours = sides::ours(direction, layout, read);
+    let verdicts = rust.verdicts.iter().zip(&ours.verdicts);
+    let written = rust
+        .written
+        .chunks_exact(direction.written())
+        .zip(ours.written.chunks_exact(direction.written()));
+    let asked = read.chunks_exact(direction.read());
+    for ((row, (&rust, &ours)), (rust_row, our_row)) in asked.zip(verdicts).zip(written) {
+        // A refused row keeps its bytes, on either side.
+        let outcome = match (rust, ours) {
+            (Verdict::Done, Verdict::Done) if rust_row == our_row => Outcome::Answered,
+            (Verdict::Refused(_), Verdict::Refused(_)) if rust_row == our_row => Outcome::Refused,
+            (_, Verdict::Refused(6)) if known::no_window(direction, layout, row) => {
+                Outcome::Known(NO_WINDOW)
+            }
+            _ => Outcome::Differs {
+                rust: text(direction, rust, rust_row),
+                ours: text(direction, ours, our_row),
+            },
+        };
+        hand_on(row, outcome);
+    }
+}
+
+fn text(direction: Direction, verdict: Verdict, row: &[u8]) -> String {
+    let wrote = row.iter().any(|&byte| byte != FILL);
+    match verdict {
+        Verdict::Done => direction.answer(row),
+        Verdict::Refused(0) => "refused".to_string(),
+        Verdict::Refused(number) if wrote => format!("refused {number}, yet the row is written"),
+        Verdict::Refused(number) => format!("refused {number}"),
+        Verdict::Skipped => "neither done nor refused".to_string(),
+        Verdict::Panics => "panics".to_string(),
+    }
+}

@@ -1,0 +1,39 @@
+//! compare: this library and the Rust's own codecs on the same inputs, and a report. compare.sh says how it is called and what
+//! its status means. It runs in the repository's root, where it finds the program that answers for the composites.
+
+mod all_words;
+mod arguments;
+mod block;
+mod column;
+mod composites;
+mod direction;
+mod file;
+mod generated;
+mod guarded;
+mod known;
+mod outcome;
+mod report;
+mod sides;
+
+use arguments::Run;
+use std::process::{self, ExitCode};
+
+fn main() -> ExitCode {
+    guarded::keep_quiet();
+    println!("jiff          {}", timeglyph::JIFF_VERSION);
+    let report = match arguments::read() {
+        Run::Generated { inputs, seed } => generated::run(inputs, seed),
+        Run::AllWords { layout } => all_words::run(layout),
+        Run::File { path } => file::run(&path),
+    };
+    match report {
+        Ok(report) => report.print(),
+        Err(reason) => stop(&reason),
+    }
+}
+
+/// Says why nothing was compared, or not all.
+fn stop(reason: &str) -> ! {
+    eprintln!("compare: {reason}");
+    process::exit(2)
+}
