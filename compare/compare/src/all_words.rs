@@ -2,7 +2,9 @@
 
 use crate::block;
 use crate::direction::Direction;
-use crate::report::{grouped, Part, Report};
+use crate::grouped::grouped;
+use crate::part::Part;
+use crate::report::Report;
 use questions::rows::{put_word, WORD};
 
 const WORDS: i64 = 1 << 32;
@@ -22,7 +24,7 @@ pub fn run(layout: u32) -> Result<Report, String> {
             part.count(outcome, || Direction::Decode.question(layout, row));
         });
         if part.inputs() as i64 % (WORDS / TOLD) == 0 {
-            let (inputs, differ) = (grouped(part.inputs()), grouped(part.differ()));
+            let (inputs, differ) = (grouped(part.inputs()), grouped(part.differ.count));
             eprintln!("compare: {inputs} words of 4,294,967,296; {differ} differ");
         }
     }

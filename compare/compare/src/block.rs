@@ -1,12 +1,12 @@
 //! Rows of one layout, both sides asked about every one of them.
 
 use crate::direction::Direction;
-use crate::known::{self, NO_WINDOW};
+use crate::known::{no_window, NO_WINDOW};
 use crate::outcome::Outcome;
 use crate::sides::{self, Verdict, FILL};
 
 /// The rows that are asked at a time: as many as a processor's caches hold.
-pub const ROWS: usize = 16_384;
+pub const ROWS: usize = 4096;
 
 /// Hands on what comes of each row, in their order.
 pub fn compare(
@@ -28,10 +28,9 @@ pub fn compare(
         let outcome = match (rust, ours) {
             (Verdict::Done, Verdict::Done) if rust_row == our_row => Outcome::Answered,
             (Verdict::Refused(_), Verdict::Refused(_)) if rust_row == our_row => Outcome::Refused,
-            (_, Verdict::Refused(6)) if known::no_window(direction, layout, row) => {
-                Outcome::Known(NO_WINDOW)
-            }
             _ => Outcome::Differs {
+                known: (ours == Verdict::Refused(6) && no_window(direction, layout, row))
+                    .then_some(NO_WINDOW),
                 rust: text(direction, rust, rust_row),
                 ours: text(direction, ours, our_row),
             },
@@ -43,7 +42,8 @@ pub fn compare(
 fn text(direction: Direction, verdict: Verdict, row: &[u8]) -> String {
     let wrote = row.iter().any(|&byte| byte != FILL);
     match verdict {
-        Verdict::Done => direction.answer(row),
+        Verdict::Done if wrote => direction.answer(row),
+        Verdict::Done => "done, yet the row is not written".to_string(),
         Verdict::Refused(0) => "refused".to_string(),
         Verdict::Refused(number) if wrote => format!("refused {number}, yet the row is written"),
         Verdict::Refused(number) => format!("refused {number}"),

@@ -3,9 +3,9 @@
 
 use crate::direction::Direction;
 use crate::guarded::guarded;
-use crate::known::{no_window, NO_WINDOW};
+use crate::known::no_window;
 use crate::outcome::Outcome;
-use crate::report::Part;
+use crate::part::Part;
 use crate::sides::{self, Verdict, FILL};
 
 /// What a column came to: the rows that are done, whether one was refused, and all bytes of the output.
@@ -23,20 +23,15 @@ pub fn compare(direction: Direction, layout: u32, read: &[u8], part: &mut Part) 
     let ours = ours(direction, layout, read);
     if ours.as_ref() == Some(&rust) && kept == read {
         part.answered += rust.done as u64;
-        if rust.refused {
-            let row = &read[rust.done * direction.read()..][..direction.read()];
-            let outcome = match no_window(direction, layout, row) {
-                true => Outcome::Known(NO_WINDOW),
-                false => Outcome::Refused,
-            };
-            part.count(outcome, String::new);
-        }
+        part.refused += u64::from(rust.refused);
         return;
     }
-    let row = ours
-        .as_ref()
-        .map_or(0, |ours| first_difference(direction, &rust, ours));
+    let row = match &ours {
+        Some(ours) => first_difference(direction, &rust, ours),
+        None => 0,
+    };
     let differs = Outcome::Differs {
+        known: None,
         rust: text(direction, &rust, row),
         ours: match &ours {
             None => "panics".to_string(),
@@ -45,17 +40,19 @@ pub fn compare(direction: Direction, layout: u32, read: &[u8], part: &mut Part) 
         },
     };
     part.count(differs, || {
-        let rows = read.len() / direction.read();
-        match read.chunks_exact(direction.read()).nth(row) {
+        let mut rows = read.chunks_exact(direction.read());
+        let column = format!("a column of {} rows", rows.len());
+        match rows.nth(row) {
             Some(asked) => format!(
-                "{}, row {row} of a column of {rows}",
+                "{}, row {row} of {column}",
                 direction.question(layout, asked)
             ),
-            None => format!("a column of {rows} rows of layout {layout}"),
+            None => format!("{column}, layout {layout}"),
         }
     });
 }
 
+/// A row that this jiff takes since it tests no window counts as refused: it is known, and the blocks tell it.
 fn rust(direction: Direction, layout: u32, read: &[u8]) -> Column {
     let side = sides::rust(direction, layout, read);
     let rows = side.verdicts.len();

@@ -3,7 +3,7 @@
 use crate::guarded::guarded;
 use crate::known::NO_CARRY;
 use crate::outcome::Outcome;
-use crate::report::Part;
+use crate::part::Part;
 use questions::composites::Question;
 use questions::rust_side::{composes, instant, seconds_and_nanos};
 use std::fmt::Write as _;
@@ -61,15 +61,16 @@ fn rust(question: &Question) -> Option<Rust> {
 }
 
 fn outcome(rust: Rust, ours: &str) -> Outcome {
-    let rust = match rust {
+    let (known, rust) = match rust {
         Rust::Instant(text) if text == ours => return Outcome::Answered,
         Rust::Refused if ours.starts_with("refused ") => return Outcome::Refused,
-        Rust::TooFar(_) if ours == "refused 12" => return Outcome::Known(NO_CARRY),
-        Rust::Instant(text) | Rust::TooFar(text) => text,
-        Rust::Refused => "refused".to_string(),
-        Rust::Panics => "panics".to_string(),
+        Rust::TooFar(text) if ours == "refused 12" => (Some(NO_CARRY), text),
+        Rust::Instant(text) | Rust::TooFar(text) => (None, text),
+        Rust::Refused => (None, "refused".to_string()),
+        Rust::Panics => (None, "panics".to_string()),
     };
     Outcome::Differs {
+        known,
         rust,
         ours: ours.to_string(),
     }

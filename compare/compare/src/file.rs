@@ -2,8 +2,10 @@
 
 use crate::block;
 use crate::direction::row;
+use crate::grouped::grouped;
 use crate::outcome::Outcome;
-use crate::report::{grouped, Part, Report};
+use crate::part::Part;
+use crate::report::Report;
 use questions::line::question;
 use std::fs;
 use std::path::Path;
@@ -27,7 +29,12 @@ pub fn run(path: &Path) -> Result<Report, String> {
             continue;
         };
         block::compare(direction, layout, &row, |_, outcome| {
-            if let Outcome::Differs { rust, ours } = &outcome {
+            if let Outcome::Differs {
+                known: None,
+                rust,
+                ours,
+            } = &outcome
+            {
                 println!("line {number}: {question}: the Rust {rust}, ours {ours}");
             }
             part.count(outcome, || format!("line {number}: {question}"));

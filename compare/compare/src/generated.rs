@@ -2,7 +2,8 @@
 
 use crate::arguments::LAYOUTS_OF_32_BITS;
 use crate::direction::{row, Direction};
-use crate::report::{Part, Report};
+use crate::part::Part;
+use crate::report::Report;
 use crate::{block, column, composites};
 use questions::composites::{number_boundaries, stamp_boundaries, Written};
 use questions::rows::{put_instant, put_word};

@@ -5,9 +5,9 @@ use questions::calendar::{jiff_tests_its_window, WINDOW_FIRST, WINDOW_LAST};
 use questions::rows;
 use std::sync::LazyLock;
 
-pub const NO_WINDOW: &str = "this jiff tests no window: the Rust encodes an instant outside it, or panics; here it is refused";
+pub const NO_WINDOW: &str = "this jiff tests no window, so the Rust encodes an instant outside it, or panics; refused 6 here";
 pub const NO_CARRY: &str =
-    "unix_sec_nsec: the Rust's seconds do not fit 64 bits; here that is refused 12";
+    "unix_sec_nsec, where the Rust's seconds do not fit 64 bits; refused 12 here";
 
 static WINDOW_TESTED: LazyLock<bool> = LazyLock::new(jiff_tests_its_window);
 

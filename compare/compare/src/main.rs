@@ -9,11 +9,14 @@ mod composites;
 mod direction;
 mod file;
 mod generated;
+mod grouped;
 mod guarded;
 mod known;
 mod outcome;
+mod part;
 mod report;
 mod sides;
+mod tally;
 
 use arguments::Run;
 use std::process::{self, ExitCode};

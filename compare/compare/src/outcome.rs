@@ -5,9 +5,9 @@ pub enum Outcome {
     Answered,
     /// Both refuse.
     Refused,
-    /// They differ as docs/DIFFERENCES.md says.
-    Known(&'static str),
+    /// `known` names the departure where docs/DIFFERENCES.md has it.
     Differs {
+        known: Option<&'static str>,
         rust: String,
         ours: String,
     },
