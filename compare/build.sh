@@ -59,7 +59,8 @@ if [ -f "$jiff/laid" ]; then
 else
     set --
     { cargo generate-lockfile --quiet --manifest-path compare/Cargo.toml &&
-        cargo update --quiet --manifest-path compare/Cargo.toml --package jiff --precise "$version"; } ||
+        cargo update --quiet --manifest-path compare/Cargo.toml --package jiff --precise "$version" &&
+        grep -A 1 '^name = "jiff"$' "$lock" | grep -qx "version = \"$version\""; } ||
         not_had "jiff $version" "$get_jiff is missing or failed, and cargo finds none"
 fi
 cargo "$@" build --quiet --release \

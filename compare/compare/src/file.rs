@@ -43,7 +43,8 @@ pub fn run(path: &Path) -> Result<Report, String> {
     println!();
     println!("{} lines", grouped(all));
     asks_nothing.tell("ask nothing (`bad line`)");
-    not_asked.tell("the Rust can't be asked: the layout is not 1 to 16, or the nanoseconds are not an instant's");
+    not_asked
+        .tell("can't be asked of the Rust (no layout of 1 to 16, or no instant's nanoseconds)");
     let mut report = Report::default();
     report.push(part);
     Ok(report)
@@ -55,7 +56,10 @@ fn lines(text: &[u8]) -> impl Iterator<Item = &[u8]> {
         .map(|line| line.strip_suffix(b"\n").unwrap_or(line))
 }
 
-/// Lines that are counted and named, the first few of them.
+/// How many lines of a kind are named.
+const NAMED: usize = 10;
+
+/// Lines that are counted, and the first few of them named.
 #[derive(Default)]
 struct Lines {
     count: u64,
@@ -65,19 +69,20 @@ struct Lines {
 impl Lines {
     fn push(&mut self, number: u64) {
         self.count += 1;
-        if self.first.len() < 10 {
+        if self.first.len() < NAMED {
             self.first.push(number.to_string());
         }
     }
 
     fn tell(&self, what: &str) {
         if self.count > 0 {
-            let more = if self.count > 10 { ", .." } else { "" };
-            println!(
-                "{} lines {what}: {}{more}",
-                grouped(self.count),
-                self.first.join(", ")
-            );
+            let (count, first) = (grouped(self.count), self.first.join(", "));
+            let more = if self.count > NAMED as u64 {
+                ", .."
+            } else {
+                ""
+            };
+            println!("{count} {what}: lines {first}{more}");
         }
     }
 }

@@ -46,7 +46,10 @@ impl Report {
         for what in &self.left_out {
             println!("NOT COMPARED: {what}");
         }
-        println!("{}", sentence(&all));
+        match self.left_out.len() {
+            0 => println!("{}", sentence(&all)),
+            _ => println!("NOT ALL WAS COMPARED. {}", sentence(&all)),
+        }
         match (all.differ.count, self.left_out.len()) {
             (0, 0) => ExitCode::SUCCESS,
             (0, _) => ExitCode::from(2),
