@@ -10,7 +10,7 @@
 set -eu
 suite=trixie
 if [ "${1:-}" = --jiff ]; then
-    suite=${2:-}
+    suite=${2:-none}
     shift "$(($# < 2 ? $# : 2))"
 fi
 case ${1:-} in

@@ -12,7 +12,7 @@ const WORDS: i64 = 1 << 32;
 /// How often the progress is told on standard error.
 const TOLD: i64 = 64;
 
-pub fn run(layout: u32) -> Result<Report, String> {
+pub fn run(layout: u32) -> Report {
     println!("words         every word of layout {layout}");
     let mut part = Part::new(&format!("layout {layout}, every word"));
     let mut read = vec![0; block::ROWS * WORD];
@@ -30,5 +30,5 @@ pub fn run(layout: u32) -> Result<Report, String> {
     }
     let mut report = Report::default();
     report.push(part);
-    Ok(report)
+    report
 }

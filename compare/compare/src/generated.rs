@@ -1,17 +1,19 @@
 //! The seeded comparison: every boundary once, and random inputs up to the number that is wanted.
 
+mod columns;
+mod composites;
+
 use crate::arguments::LAYOUTS_OF_32_BITS;
+use crate::block;
 use crate::direction::{row, Direction};
 use crate::part::Part;
 use crate::report::Report;
-use crate::{block, column, composites};
-use questions::composites::{number_boundaries, stamp_boundaries, Written};
+use questions::once;
 use questions::rows::{put_instant, put_word};
 use questions::splitmix::SplitMix;
 use questions::words::layouts::NUMBERS;
 use questions::words::random::{damaged_word, good_word, instant};
 use questions::words::{instant_boundaries, word_boundaries, Question};
-use questions::{composites as compose, once};
 
 /// The random inputs, in sixteenths of them all.
 const GOOD_WORDS: u64 = 3;
@@ -21,7 +23,7 @@ const INSTANTS: u64 = 4;
 const COLUMNS: u64 = 2;
 const COMPOSITES: u64 = 2;
 
-pub fn run(inputs: u64, seed: u64) -> Result<Report, String> {
+pub fn run(inputs: u64, seed: u64) -> Report {
     println!("seed          {seed}");
     let share = |sixteenths| inputs.div_ceil(16) * sixteenths;
     let numbers = &mut SplitMix::new(seed);
@@ -44,13 +46,13 @@ pub fn run(inputs: u64, seed: u64) -> Result<Report, String> {
         instant_boundaries::questions,
     ));
     report.push(instants(share(INSTANTS), numbers));
-    report.push(columns(share(COLUMNS), numbers));
-    let (part, answered) = all_composites(share(COMPOSITES), numbers);
+    report.push(columns::part(share(COLUMNS), numbers));
+    let (part, answered) = composites::part(share(COMPOSITES), numbers);
     report.push(part);
     if let Err(reason) = answered {
         report.leave_out(format!("the composites: {reason}"));
     }
-    Ok(report)
+    report
 }
 
 /// The recorder's boundaries of each layout, but for instants that the Rust can't be given.
@@ -143,68 +145,7 @@ fn compare(direction: Direction, layout: u32, read: &[u8], part: &mut Part) {
     });
 }
 
-/// Columns of up to 1,023 rows in any layout: of each three, two have damaged rows, one of them many.
-fn columns(inputs: u64, numbers: &mut SplitMix) -> Part {
-    let mut part = Part::new("rows of columns");
-    while part.inputs() < inputs {
-        let layout = numbers.between(1, 16);
-        let direction = match numbers.coin() {
-            true => Direction::Decode,
-            false => Direction::Encode,
-        };
-        let length = numbers.below(11) as u32;
-        let rows = numbers.of_bit_length(length);
-        let damage = match numbers.below(3) {
-            0 => 0,
-            1 => 1,
-            _ => numbers.below(rows + 1),
-        };
-        let mut read = vec![0; rows as usize * direction.read()];
-        for (turn, row) in read.chunks_exact_mut(direction.read()).enumerate() {
-            let damaged = numbers.below(rows) < damage;
-            match direction {
-                Direction::Decode if damaged => put_word(row, damaged_word(layout, turn, numbers)),
-                Direction::Decode => put_word(row, good_word(layout, numbers)),
-                // Of its turns, 0 to 3 have seconds that the encoder takes.
-                Direction::Encode => {
-                    put_random_instant(row, layout, if damaged { turn } else { turn % 4 }, numbers)
-                }
-            }
-        }
-        column::compare(direction, layout as u32, &read, &mut part);
-    }
-    part
-}
-
 fn put_random_instant(row: &mut [u8], layout: i64, turn: usize, numbers: &mut SplitMix) {
     let (seconds, nanos) = instant(layout, turn, numbers);
     put_instant(row, seconds, nanos as u32);
-}
-
-/// The recorder's boundaries, then random ones: three in numbers, three good stamps, and three damaged ones.
-fn all_composites(inputs: u64, numbers: &mut SplitMix) -> (Part, Result<(), String>) {
-    let mut part = Part::new("composites");
-    let mut questions = once(number_boundaries::questions());
-    questions.extend(once(compose::each(stamp_boundaries::questions)));
-    let mut turn = 0;
-    let answered = loop {
-        while questions.len() < composites::AT_ONCE
-            && part.inputs() + (questions.len() as u64) < inputs
-        {
-            questions.extend(compose::random::in_numbers(numbers));
-            for written in Written::ALL {
-                questions.push(compose::random::good(written, numbers));
-                questions.push(compose::random::damaged(written, turn % 3, numbers));
-            }
-            turn += 1;
-        }
-        if questions.is_empty() {
-            break Ok(());
-        }
-        if let Err(reason) = composites::compare(&questions, &mut part) {
-            break Err(reason);
-        }
-        questions.clear();
-    };
-    (part, answered)
 }

@@ -27,12 +27,9 @@ fn main() -> ExitCode {
     let report = match arguments::read() {
         Run::Generated { inputs, seed } => generated::run(inputs, seed),
         Run::AllWords { layout } => all_words::run(layout),
-        Run::File { path } => file::run(&path),
+        Run::File { path } => file::run(&path).unwrap_or_else(|reason| stop(&reason)),
     };
-    match report {
-        Ok(report) => report.print(),
-        Err(reason) => stop(&reason),
-    }
+    report.print()
 }
 
 /// Says why nothing was compared, or not all.
