@@ -1,6 +1,6 @@
 #!/bin/sh
 # compare.sh: this library and the Rust's own codecs on the same inputs, and a report.
-#   compare/compare.sh                        a little more than a million generated inputs, in a few seconds
+#   compare/compare.sh                        two million generated inputs, in a few seconds
 #   compare/compare.sh --inputs N --seed S    so many of them, from another seed; either can be left out
 #   compare/compare.sh --all-words LAYOUT     every word of a layout of 32 bits: 1, 2, 3, 4, 9 or 15
 #   compare/compare.sh FILE                   the lines of a file, as the line program takes them

@@ -8,8 +8,7 @@ use std::str::FromStr;
 /// The layouts whose words have 32 bits.
 pub const LAYOUTS_OF_32_BITS: [u32; 6] = [1, 2, 3, 4, 9, 15];
 
-/// A little more than a million.
-const INPUTS: u64 = 1_200_000;
+const INPUTS: u64 = 2_000_000;
 
 /// 1904-02-29.
 const SEED: u64 = 19_040_229;

@@ -1,7 +1,8 @@
-//! The seeded comparison: every boundary once, and random inputs up to the number that is wanted.
+//! The seeded comparison: every boundary and many dates once, and random inputs up to the number that is wanted.
 
 mod columns;
 mod composites;
+mod dates;
 
 use crate::arguments::LAYOUTS_OF_32_BITS;
 use crate::block;
@@ -15,7 +16,7 @@ use questions::words::layouts::NUMBERS;
 use questions::words::random::{damaged_word, good_word, instant};
 use questions::words::{instant_boundaries, word_boundaries, Question};
 
-/// The random inputs, in sixteenths of them all.
+/// The random inputs of each part, in sixteenths of them all.
 const GOOD_WORDS: u64 = 3;
 const DAMAGED_WORDS: u64 = 3;
 const SLICE: u64 = 2;
@@ -25,26 +26,22 @@ const COMPOSITES: u64 = 2;
 
 pub fn run(inputs: u64, seed: u64) -> Report {
     println!("seed          {seed}");
-    let share = |sixteenths| inputs.div_ceil(16) * sixteenths;
     let numbers = &mut SplitMix::new(seed);
     let mut report = Report::default();
-    report.push(boundaries(
-        "boundaries of words",
-        word_boundaries::questions,
-    ));
-    report.push(words("good words", share(GOOD_WORDS), |layout, _| {
-        good_word(layout, numbers)
-    }));
-    report.push(words(
-        "damaged words",
-        share(DAMAGED_WORDS),
-        |layout, turn| damaged_word(layout, turn, numbers),
-    ));
+    let edges = word_boundaries::questions;
+    report.push(boundaries("boundaries of words", edges));
+    let edges = instant_boundaries::questions;
+    report.push(boundaries("boundaries of instants", edges));
+    report.push(dates::part("dates, decoded", Direction::Decode, numbers));
+    report.push(dates::part("dates, encoded", Direction::Encode, numbers));
+
+    let left = inputs.saturating_sub(report.inputs());
+    let share = |sixteenths| left.div_ceil(16) * sixteenths;
+    let make = |layout, _| good_word(layout, numbers);
+    report.push(words("good words", share(GOOD_WORDS), make));
+    let make = |layout, turn| damaged_word(layout, turn, numbers);
+    report.push(words("damaged words", share(DAMAGED_WORDS), make));
     report.push(slice(share(SLICE), numbers));
-    report.push(boundaries(
-        "boundaries of instants",
-        instant_boundaries::questions,
-    ));
     report.push(instants(share(INSTANTS), numbers));
     report.push(columns::part(share(COLUMNS), numbers));
     let (part, answered) = composites::part(share(COMPOSITES), numbers);

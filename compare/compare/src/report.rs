@@ -17,6 +17,10 @@ impl Report {
         self.parts.push(part);
     }
 
+    pub fn inputs(&self) -> u64 {
+        self.parts.iter().map(Part::inputs).sum()
+    }
+
     pub fn leave_out(&mut self, what: String) {
         self.left_out.push(what);
     }

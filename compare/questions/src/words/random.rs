@@ -4,6 +4,7 @@ use super::instant_boundaries::{NOKIA_FIRST, NOKIA_LAST, THREE_TICKS, YEAR_1900}
 use super::layouts::Layout;
 use crate::calendar::{fields_of, midnight, WINDOW_FIRST, WINDOW_LAST};
 use crate::splitmix::SplitMix;
+use std::ops::RangeInclusive;
 
 /// By turns: a good word with something else in one field, a good word with one bit changed, a word of a random bit
 /// length.
@@ -43,8 +44,7 @@ fn good_day(numbers: &mut SplitMix) -> i64 {
 /// With something in what is no civil field, by chance.
 fn good_civil_word(number: i64, numbers: &mut SplitMix) -> i64 {
     let layout = Layout::of(number);
-    let fields = fields_of(good_second(number, numbers)).expect("jiff has the encoders' years");
-    let word = layout.word(&fields.numbers());
+    let word = civil_word(&layout, good_second(number, numbers));
     let extra = match number {
         14 => numbers.below(10) << 4 | numbers.below(16),
         _ => numbers.below(layout.most_extra() + 1),
@@ -62,12 +62,23 @@ fn good_second(layout: i64, numbers: &mut SplitMix) -> i64 {
         15 => numbers.between(NOKIA_FIRST, NOKIA_LAST),
         16 => YEAR_1900 + good_day(numbers) * 86_400 + numbers.between(0, 86_398),
         _ => {
-            let years = Layout::of(layout).years;
-            let first = midnight(*years.start() as i16, 1, 1);
-            let last = midnight(*years.end() as i16, 12, 31) + 86_399;
-            numbers.between(first, last.min(WINDOW_LAST))
+            let seconds = civil_seconds(&Layout::of(layout));
+            numbers.between(*seconds.start(), *seconds.end())
         }
     }
+}
+
+/// The seconds of a layout's years, as far as the window goes.
+pub fn civil_seconds(layout: &Layout) -> RangeInclusive<i64> {
+    let first = midnight(*layout.years.start() as i16, 1, 1);
+    let last = midnight(*layout.years.end() as i16, 12, 31) + 86_399;
+    first..=last.min(WINDOW_LAST)
+}
+
+/// The word of a second of the layout's years.
+pub fn civil_word(layout: &Layout, second: i64) -> i64 {
+    let fields = fields_of(second).expect("jiff has the encoders' years");
+    layout.word(&fields.numbers())
 }
 
 /// Of each four: none, the most, some beside a half tick of layout 16, any.
