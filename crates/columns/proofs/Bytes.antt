@@ -1,11 +1,11 @@
 -- The bytes of rows: how many there are, and what is lent and written through a part of a row.
-use Prim.Native.Nat.{ℕ, _+_, _-_, _≤_}
+use Prim.Native.Nat.{ℕ, _-_, _≤_}
 use mathlib.Core.Path.{_≡_}
 use mathlib.Core.List.{List, _++_, append-nil}
 use native.Mathlib.Omega.{arith}
 use lib.IntN.{ℤ}
 use lib.ListN.{length, take, drop, drop-of-length-le, length-append}
-use lib.Seq.{take-all, take-at, drop-at, take-take}
+use lib.Seq.{take-all, take-at, drop-at}
 use borrow.Rule.Slice.PartMut.{putMid}
 use mir.Syntax.{w64}
 use mir.Val.{ofZ}

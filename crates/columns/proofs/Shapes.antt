@@ -1,17 +1,16 @@
 -- A call that is refused before its first row, and one that is not.
-use Prim.Native.Nat.{ℕ, suc, _+_, _*_, _/_, _%_, _≤_}
+use Prim.Native.Nat.{ℕ, _/_, _%_, _≤_}
 use mathlib.Core.Path.{_≡_, refl, sym, _∙_}
 use mathlib.Core.Bool.{Bool, true, false, cond, _&&_}
 use mathlib.Core.List.{List}
 use native.Mathlib.Nat.{zero-add}
 use native.Mathlib.Omega.{arith}
-use borrow.Author.Tests.{eqb-true, eqb-false, eq-eqb, ne-eqb, leb-true}
-use lib.Dec.{eqb·suc-zero}
+use borrow.Author.Tests.{eqb-true, eq-eqb, ne-eqb, leb-true}
 use lib.ListN.{length}
 use Rattle.refusal.specs.Answers.{Answer, gives, refused}
 use Rattle.registry.specs.Words.{ruleFor}
 use Rattle.registry.specs.declared.rules.Rule.{Rule}
-use Rattle.columns.specs.Columns.{Column, shapeOf, rowsOf, columnOf, answer}
+use Rattle.columns.specs.Columns.{shapeOf, rowsOf, columnOf, answer}
 
 -- what is told of a shape that nothing refuses
 whole : (x y z w : Bool) → _≡_ {A = ℕ} (cond (x && (y && z)) (cond w 0 13) 11) 0 → (x ≡ true) × (y ≡ true) × (z ≡ true) × (w ≡ true)

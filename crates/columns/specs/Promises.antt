@@ -1,11 +1,11 @@
 -- What holds of the definitions. Each is proved in proofs/Promises.antt.
-use Prim.Native.Nat.{ℕ, _+_, _*_, _/_, _%_, _≤_, _<_}
+use Prim.Native.Nat.{ℕ, _*_, _/_, _%_, _<_}
 use mathlib.Core.Path.{_≡_}
 use mathlib.Core.List.{List}
 use mathlib.Core.Logic.{_⊎_}
-use lib.ListN.{length, take, drop}
+use lib.ListN.{take, drop}
 use Rattle.refusal.specs.Answers.{Answer, gives, refused}
-use Rattle.columns.specs.Columns.{rowsOf, columnOf, decodeColumn, encodeColumn, answer}
+use Rattle.columns.specs.Columns.{rowsOf, decodeColumn, encodeColumn, answer}
 
 -- row k of a column with rows of w bytes
 abbrev pub rowAt : ℕ → ℕ → List ℕ → List ℕ

@@ -3,14 +3,9 @@ use borrow.Author.Needs.{needs}
 use Prim.Native.Nat.{_+_, _-_, _*_}
 use mathlib.Core.Path.{_≡_, sym, ap, _∙_}
 use native.Mathlib.Omega.{arith}
-use lib.ListN.{length, take, drop, length-drop}
-use lib.Seq.{length-take-le, take-take}
+use lib.ListN.{length, take, drop}
 use denote.Ref.{now}
-use mir.Syntax.{w64}
-use mir.Val.{ofZ}
-use mir.Facts.{toZ-ofZ}
 use Rattle.refusal.specs.Answers.{gives}
-use Rattle.octets.specs.Octets.{numberOf}
 use Rattle.registry.specs.Answers.{readDecoded}
 use Rattle.registry.specs.Words.{decodeBy}
 use Rattle.columns.specs.Columns.{instantBytes, written, decodeRow}

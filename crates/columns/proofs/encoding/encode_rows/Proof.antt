@@ -4,15 +4,14 @@ use Prim.Native.Nat.{_+_, _-_, _*_}
 use mathlib.Core.Path.{_≡_, sym, ap, _∙_}
 use native.Mathlib.Omega.{arith}
 use lib.ListN.{length, take, drop, length-drop}
-use lib.Seq.{length-take-le, take-take}
+use lib.Seq.{length-take-le}
 use denote.Ref.{now}
 use mir.Syntax.{w64}
-use mir.Val.{ofZ}
 use mir.Facts.{toZ-ofZ}
 use Rattle.refusal.specs.Answers.{gives}
 use Rattle.registry.specs.Answers.{readEncoded}
 use Rattle.registry.specs.Words.{encodeBy}
-use Rattle.columns.specs.Columns.{instantOf, wordBytes, written, encodeRow}
+use Rattle.columns.specs.Columns.{wordBytes, written, encodeRow}
 use Rattle.columns.proofs.Bytes.{word-length}
 use Rattle.columns.proofs.Turns.{Midway, start, more, stop, end}
 use Rattle.columns.proofs.encoding.encode_rows.Statement.{statement}

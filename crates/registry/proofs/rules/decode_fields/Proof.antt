@@ -1,6 +1,6 @@
 -- `decode_fields` meets its contract: by the rule that was matched. Assumes nothing.
 use borrow.Author.Needs.{needs}
-use mathlib.Core.Path.{_≡_, sym, ap, _∙_}
+use mathlib.Core.Path.{sym, ap, _∙_}
 use Rattle.registry.specs.Words.{fieldsDecode, decodeBy}
 use Rattle.registry.specs.Parts.{layoutOf}
 use Rattle.registry.proofs.RuleTags.{not-gsm}
