@@ -42,6 +42,15 @@ if ! compare/build.sh compare "$suite"; then
     echo "compare.sh: nothing was compared" >&2
     exit 2
 fi
+# The program that answers for the composites; without it they are not compared, and the report says so.
+case ${1:-} in
+--inputs | --seed | '')
+    if [ ! -x target/bin/composites ] && command -v rt >/dev/null 2>&1; then
+        echo "compare.sh: proving and building the program composites, a few minutes" >&2
+        rt check composites >target/compare.log 2>&1 || cat target/compare.log >&2
+    fi
+    ;;
+esac
 timeglyph=$(cd "${TIMEGLYPH:-../shared/docs/src}" && pwd)
 library=${SLEETRICK_LIB:-$PWD/target/staticlib}/libcolumns.a
 echo "the Rust      timeglyph in $timeglyph$(commit "$timeglyph")"
