@@ -29,7 +29,7 @@ use Rattle.columns.specs.Columns.{instantOf, instantBytes, wordBytes, wr
 -- an answer whose refusal is such a number
 abbrev pub Numbered : {A : Type 0} → Answer A → Type 0
 Numbered (gives x) = Unit {0}
-Numbered (refused n) = n < 16
+Numbered (refused n) = (0 < n) × (n < 16)
 
 by-test : {A : Type 0} (b : Bool) (x y : Answer A) → Numbered x → Numbered y → Numbered (cond b x y)
 by-test true x y p q = p
@@ -46,42 +46,42 @@ unfolding fieldsDecode
 by-layout l w =
     let c = fieldsIn l (ordered (l .order) w) in
     by-test (ltb (ordered (l .order) w) (l .words)) (atSecond (secondsFor c)) (refused 2)
-    (at-second (secondsFor c) (by-test (good c) (gives (secondsOf c)) (refused 3) tt (omega arith)))
-    (omega arith)
+    (at-second (secondsFor c) (by-test (good c) (gives (secondsOf c)) (refused 3) tt (omega arith, omega arith)))
+    (omega arith, omega arith)
 
 then-zone : (z : ℕ) (x : Answer Instant) → Numbered x → Numbered (thenZone z x)
 unfolding lessZone
-then-zone z (gives t) h = by-test (leb (z / 16) 9) _ (refused 4) tt (omega arith)
+then-zone z (gives t) h = by-test (leb (z / 16) 9) _ (refused 4) tt (omega arith, omega arith)
 then-zone z (refused n) h = h
 
 decodes : (r : Rule) (w : ℕ) → Numbered (decodeBy r w)
 unfolding gsmDecode nokiaDecode sqlDecode
 decodes (Civil k) w = by-layout (layoutFor k) w
 decodes Gsm w = then-zone (w % 2 ^ 8) (fieldsDecode gsm w) (by-layout gsm w)
-decodes NokiaLe w = by-test (ltb w (2 ^ 32)) _ (refused 2) tt (omega arith)
-decodes SqlServer w = by-test (ltb (sqlTicks w) 25920000) _ (refused 5) tt (omega arith)
+decodes NokiaLe w = by-test (ltb w (2 ^ 32)) _ (refused 2) tt (omega arith, omega arith)
+decodes SqlServer w = by-test (ltb (sqlTicks w) 25920000) _ (refused 5) tt (omega arith, omega arith)
 
 -- ---- encoding
 
 writing : (l : Layout) (x : Answer civil.Civil) → Numbered x → Numbered (writeFields l x)
-writing l (gives c) h = by-test (writes l (c .year)) _ (refused 7) tt (omega arith)
+writing l (gives c) h = by-test (writes l (c .year)) _ (refused 7) tt (omega arith, omega arith)
 writing l (refused n) h = h
 
 with-nanos : (t : Instant) (x : Answer ℤ) → Numbered x → Numbered (cond (leb (t .nanos) 999999999) x (refused 9))
-with-nanos t x h = by-test (leb (t .nanos) 999999999) x (refused 9) h (omega arith)
+with-nanos t x h = by-test (leb (t .nanos) 999999999) x (refused 9) h (omega arith, omega arith)
 
 fields : (l : Layout) (t : Instant) → Numbered (fieldsEncode l t)
 unfolding fieldsEncode
 fields l t =
     with-nanos t (writeFields l (fieldsFor (t .seconds)))
-    (writing l (fieldsFor (t .seconds)) (by-test (inWindow (t .seconds)) (gives (fieldsAt (t .seconds))) (refused 6) tt (omega arith)))
+    (writing l (fieldsFor (t .seconds)) (by-test (inWindow (t .seconds)) (gives (fieldsAt (t .seconds))) (refused 6) tt (omega arith, omega arith)))
 
 nokia : (z : ℤ) → Numbered (nokiaWord z)
-nokia (pos p) = by-test (ltb p (2 ^ 32)) _ (refused 8) tt (omega arith)
-nokia (negsuc n) = omega arith
+nokia (pos p) = by-test (ltb p (2 ^ 32)) _ (refused 8) tt (omega arith, omega arith)
+nokia (negsuc n) = (omega arith, omega arith)
 
 day : (d : ℤ) (k : ℕ) → Numbered (dayWord d k)
-day d k = by-test (leZ (negℤ (pos (2 ^ 31))) d && ltZ d (pos (2 ^ 31))) _ (refused 8) tt (omega arith)
+day d k = by-test (leZ (negℤ (pos (2 ^ 31))) d && ltZ d (pos (2 ^ 31))) _ (refused 8) tt (omega arith, omega arith)
 
 sql : (z : ℤ) (n : ℕ) → Numbered (sqlWord z n)
 unfolding sqlWord
@@ -104,7 +104,7 @@ numbered-rule n = go (ruleFor n) refl
   where
     go : (x : Answer Rule) → ruleFor n ≡ x → Numbered x
     go (gives r) e = tt
-    go (refused k) e = let h : refused k ≡ refused 1 = sym e ∙ no-rule n (sym e) in let z : k ≡ 1 = cc in omega arith
+    go (refused k) e = let h : refused k ≡ refused 1 = sym e ∙ no-rule n (sym e) in let z : k ≡ 1 = cc in (omega arith, omega arith)
 
 -- ---- rows
 
@@ -124,7 +124,7 @@ module _ (row : List ℕ → Answer (List ℕ)) (a b : ℕ) (small : (bytes : Li
   then : (r : Answer (List ℕ)) (old : List ℕ) (rest : Column) → Numbered r → rest .refusal < 16 → rowThen r old rest .refusal < 16
   unfolding rowThen
   then (gives bytes) old rest h k = k
-  then (refused n) old rest h k = h
+  then (refused n) old rest h k = h .1
 
   pub rows-small : (rows : ℕ) (input old : List ℕ) → rowsOf row a b rows input old .refusal < 16
   unfolding rowsOf

@@ -6,6 +6,7 @@ use mathlib.Core.List.{List, _++_}
 use mathlib.Core.Logic.{_⊎_, inl, inr, ⊎-elim}
 use native.Mathlib.Omega.{arith}
 use native.Mathlib.Nat.{mul-zero, mul-suc, le-of-suc-le-suc, not-suc-le-zero}
+use borrow.Author.Tests.{eqb-false}
 use lib.Dec.{eqb, leb}
 use lib.ListN.{length, take, drop}
 use lib.Seq.{drop-drop}
@@ -13,7 +14,7 @@ use Rattle.refusal.specs.Answers.{Answer, gives, refused}
 use Rattle.registry.specs.Words.{ruleFor}
 use Rattle.registry.specs.declared.rules.Rule.{Rule}
 use Rattle.columns.specs.Columns.{Column, untouched, rowThen, rowsOf, shapeOf, byRule, columnOf, decodeRow, encodeRow}
-use Rattle.columns.specs.Promises.{rowAt, Accepted, Ended, ReadsBack}
+use Rattle.columns.specs.Promises.{rowAt, Accepted, Ended, ReadsBack, AllDone}
 use Rattle.columns.proofs.Numbers.{Numbered, numbered-rule, decode-row, encode-row, rows-small}
 
 next-row : (w k : ℕ) (s : List ℕ) → rowAt w k (drop w s) ≡ rowAt w (suc k) s
@@ -76,7 +77,7 @@ shape-small n a m b = by-tests (eqb (n % a) 0 && (eqb (m % b) 0 && eqb (m / b) (
 module _ (row : Rule → List ℕ → Answer (List ℕ)) (a b : ℕ) (small : (r : Rule) (bytes : List ℕ) → Numbered (row r bytes)) (input old : List ℕ) where
   ruled : (x : Answer Rule) → Numbered x → byRule row a b x input old .refusal < 16
   ruled (gives r) h = rows-small (row r) a b (small r) (length input / a) input old
-  ruled (refused n) h = h
+  ruled (refused n) h = h .1
 
   shaped : (t : Bool) (n : ℕ) (x : Answer Rule) → n < 16 → Numbered x → cond t (byRule row a b x input old) (untouched n old) .refusal < 16
   shaped true n x h k = ruled x k
@@ -88,6 +89,27 @@ module _ (row : Rule → List ℕ → Answer (List ℕ)) (a b : ℕ) (small : (r
       let n = shapeOf (length input) a (length old) b in
       shaped (eqb n 0) n (ruleFor layout) (shape-small (length input) a (length old) b) (numbered-rule layout)
 
+  -- where nothing is refused, every row is done
+  no-refusal : (r : Rule) (rows : ℕ) → rowsOf (row r) a b rows input old .refusal ≡ 0 → rowsOf (row r) a b rows input old .done ≡ rows
+  no-refusal r rows e =
+      ⊎-elim (λ w. w .0)
+      (λ w. let h = small r (rowAt a (rowsOf (row r) a b rows input old .done) input) in absurd (not-suc-le-zero (rw (w .1, e) at h .0)))
+      (ends (row r) a b rows input old)
+
+  all-ruled : (x : Answer Rule) → Numbered x → byRule row a b x input old .refusal ≡ 0 → byRule row a b x input old .done ≡ length input / a
+  all-ruled (gives r) h e = no-refusal r (length input / a) e
+  all-ruled (refused n) h e = absurd (not-suc-le-zero (rw e at (h .0)))
+
+  all-shaped : (t : Bool) (n : ℕ) (x : Answer Rule) → eqb n 0 ≡ t → Numbered x → cond t (byRule row a b x input old) (untouched n old) .refusal ≡ 0 →
+      cond t (byRule row a b x input old) (untouched n old) .done ≡ length input / a
+  all-shaped true n x q k e = all-ruled x k e
+  all-shaped false n x q k e = absurd (eqb-false n 0 q e)
+
+  column-done : (layout : ℕ) → columnOf row a b layout input old .refusal ≡ 0 → columnOf row a b layout input old .done ≡ length input / a
+  unfolding columnOf
+  column-done layout e =
+      let n = shapeOf (length input) a (length old) b in all-shaped (eqb n 0) n (ruleFor layout) refl (numbered-rule layout) e
+
 reads : (n k : ℕ) → k < 16 → ((n * 16 + k) / 16 ≡ n) × ((n * 16 + k) % 16 ≡ k)
 reads n k h = (omega arith, omega arith)
 
@@ -95,4 +117,10 @@ pub reads-back : ReadsBack
 reads-back layout input old = (
   reads _ _ (column-small decodeRow 8 12 decode-row input old layout),
   reads _ _ (column-small encodeRow 12 8 encode-row input old layout),
+)
+
+pub all-done : AllDone
+all-done layout input old = (
+  column-done decodeRow 8 12 decode-row input old layout,
+  column-done encodeRow 12 8 encode-row input old layout,
 )

@@ -3,7 +3,7 @@ use Prim.Native.Nat.{ℕ, _*_, _/_, _%_, _<_}
 use mathlib.Core.Path.{_≡_}
 use mathlib.Core.List.{List}
 use mathlib.Core.Logic.{_⊎_}
-use lib.ListN.{take, drop}
+use lib.ListN.{length, take, drop}
 use Rattle.refusal.specs.Answers.{Answer, gives, refused}
 use Rattle.columns.specs.Columns.{rowsOf, decodeColumn, encodeColumn, answer}
 
@@ -31,3 +31,10 @@ ReadsBack =
     (layout : ℕ) (input old : List ℕ) →
     ((answer (decodeColumn layout input old) / 16 ≡ decodeColumn layout input old .done) × (answer (decodeColumn layout input old) % 16 ≡ decodeColumn layout input old .refusal))
     × ((answer (encodeColumn layout input old) / 16 ≡ encodeColumn layout input old .done) × (answer (encodeColumn layout input old) % 16 ≡ encodeColumn layout input old .refusal))
+
+-- every refusal is a number from 1 to 15, so that 0 is told where every row is done, and there alone
+abbrev pub AllDone : Type 0
+AllDone =
+    (layout : ℕ) (input old : List ℕ) →
+    (decodeColumn layout input old .refusal ≡ 0 → decodeColumn layout input old .done ≡ length input / 8)
+    × (encodeColumn layout input old .refusal ≡ 0 → encodeColumn layout input old .done ≡ length input / 12)

@@ -3,6 +3,7 @@ ghost use mathlib.Core.Path.{_≡_};
 ghost use Prim.Native.Nat.{_+_, _<_};
 ghost use lib.ListN.{length};
 ghost use Rattle.compose.specs.Stamps.{byte, word};
+use octets::byte_at;
 use octets::get16;
 
 // A byte as a wide number.
@@ -21,10 +22,9 @@ fn widened_pair(n: u16) -> u64
 
 // Byte k of a stamp.
 pub fn byte_of(stamp: &[u8], k: usize) -> u64
-    requires { ⌜ k < length (now stamp) ⌝ }
     ensures { λ r. ⌜ (r ≡ byte (now (stamp .entry)) k) × (r < 256) ⌝ }
 {
-    widened(stamp[k])
+    widened(byte_at(stamp, k))
 }
 
 // Bytes k and k + 1 of a stamp, the low one first.
