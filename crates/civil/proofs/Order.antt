@@ -14,7 +14,7 @@ use Rattle.gregorian.specs.Dates.{goodDate}
 use Rattle.gregorian.proofs.Days.{year-back, number}
 use Rattle.gregorian.proofs.Trip.{its-year}
 use Rattle.gregorian.proofs.Order.{later-year, later-month, later-day}
-use Rattle.civil.specs.Instants.{decides}
+use Rattle.instant.specs.Instants.{decides}
 use Rattle.civil.specs.Times.{good, secondsOf}
 use Rattle.civil.specs.Promises.{earlier, SameOrder}
 use Rattle.civil.specs.declared.times.Civil.{Civil}

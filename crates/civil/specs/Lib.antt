@@ -1,4 +1,3 @@
-pub mod Instants
 pub mod Times
 pub mod Answers
 pub mod Promises

@@ -6,7 +6,7 @@ use lib.Dec.{ltb}
 use lib.IntN.{ℤ, pos, negℤ, _+ℤ_, _*ℤ_}
 use lib.Signed.{mag, ltZ}
 use Rattle.signed.specs.Floor.{floorDiv}
-use Rattle.civil.specs.Instants.{decides}
+use Rattle.instant.specs.Instants.{decides}
 use Rattle.civil.specs.Times.{inWindow, good, secondsOf, fieldsAt}
 use Rattle.civil.specs.Answers.{readSeconds, readFields, secondsFor, fieldsFor}
 use Rattle.civil.specs.declared.times.Civil.{Civil}

@@ -1,14 +1,11 @@
-// Instants, and civil times in UTC: six fields to seconds and seconds to six fields, for every input.
+// Civil times in UTC: six fields to seconds and seconds to six fields, for every input.
 //
-// An instant is seconds since 1970-01-01 UTC, negative before, and nanoseconds counted forwards. A civil time has seconds
-// where its date is one of the years -9999 to 9999, its time of day is one, and its seconds lie in the civil window. The
-// calls in `times` take the same time for every year; those in `walk` are the same two over the calendar's second
+// Seconds count from 1970-01-01 UTC and are negative before. A civil time has seconds where its date is one of the years
+// -9999 to 9999, its time of day is one, and its seconds lie in the civil window. The calls in `times` take the same time for every year; those in `walk` are the same two over the calendar's second
 // engine, which goes year by year.
-mod instants;
 mod times;
 mod walk;
 
-pub use instants::Instant;
 pub use times::Civil;
 pub use times::Fields;
 pub use times::Seconds;

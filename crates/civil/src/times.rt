@@ -8,12 +8,12 @@ ghost use Rattle.signed.specs.Floor.{floorDiv, floorRem};
 ghost use Rattle.civil.specs.Times.{inWindow};
 ghost use Rattle.civil.specs.Answers.{readSeconds, readFields, secondsFor, fieldsFor};
 ghost use Rattle.civil.specs.Parts.{secondsOn, onDate};
-use crate::instants::Instant;
 use gregorian::Date;
 use gregorian::Dated;
 use gregorian::Day;
 use gregorian::date_of;
 use gregorian::day_of;
+use instant::Instant;
 use refusal::Refusal;
 
 // A civil time in UTC. Months and days count from 1.

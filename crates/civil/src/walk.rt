@@ -1,7 +1,6 @@
 // The same two calls over the calendar's second engine, which goes year by year.
 ghost use mathlib.Core.Path.{_≡_};
 ghost use Rattle.civil.specs.Answers.{readSeconds, readFields, secondsFor, fieldsFor};
-use crate::instants::Instant;
 use crate::times::Civil;
 use crate::times::Fields;
 use crate::times::Seconds;
@@ -11,6 +10,7 @@ use gregorian::Dated;
 use gregorian::Day;
 use gregorian::date_of_by_walk;
 use gregorian::day_of_by_walk;
+use instant::Instant;
 use refusal::Refusal;
 use signed::div_floor;
 use signed::rem_floor;

@@ -11,7 +11,7 @@ use mir.Syntax.{w64}
 use mir.Val.{ofZ}
 use Rattle.octets.specs.Octets.{bytesOf}
 use Rattle.octets.proofs.Promises.{many}
-use Rattle.civil.specs.declared.instants.Instant.{Instant}
+use Rattle.instant.specs.declared.instants.Instant.{Instant}
 use Rattle.columns.specs.Columns.{instantBytes, wordBytes}
 
 pub word-length : (z : ℤ) → length (wordBytes z) ≡ 8

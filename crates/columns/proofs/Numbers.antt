@@ -11,17 +11,19 @@ use lib.ListN.{take, drop}
 use Rattle.refusal.specs.Answers.{Answer, gives, refused}
 use Rattle.signed.specs.Floor.{floorDiv, floorRem}
 use Rattle.octets.specs.Octets.{numberOf}
-use Rattle.civil.specs.declared.instants.Instant.{Instant}
+use Rattle.instant.specs.declared.instants.Instant.{Instant}
 use Rattle.civil.specs.declared.times.Civil as civil
 use Rattle.civil.specs.Times.{good, inWindow, secondsOf, fieldsAt}
 use Rattle.civil.specs.Answers.{secondsFor, fieldsFor}
-use Rattle.registry.specs.Orders.{ordered}
-use Rattle.registry.specs.Layouts.{gsm}
-use Rattle.registry.specs.Reading.{fieldsIn}
-use Rattle.registry.specs.Writing.{writes}
+use Rattle.places.specs.Orders.{ordered}
+use Rattle.fields.specs.Layouts.{gsm, layoutFor}
+use Rattle.fields.specs.Reading.{fieldsIn}
+use Rattle.fields.specs.declared.layouts.Layout.{Layout}
+use Rattle.packing.specs.Writing.{writes, writeFields}
+use Rattle.counts.specs.Nokia.{nokiaDecode, nokiaWord, nokiaEncode}
+use Rattle.counts.specs.Sql.{sqlTicks, sqlDecode, dayWord, nearestTick, sqlWord, sqlEncode}
 use Rattle.registry.proofs.RuleNumbers.{no-rule}
-use Rattle.registry.specs.Words.{ruleFor, layoutFor, atSecond, fieldsDecode, lessZone, thenZone, gsmDecode, nokiaDecode, sqlTicks, sqlDecode, decodeBy, writeFields, fieldsEncode, nokiaWord, nokiaEncode, dayWord, nearestTick, sqlWord, sqlEncode, encodeBy}
-use Rattle.registry.specs.declared.layouts.Layout.{Layout}
+use Rattle.registry.specs.Words.{ruleFor, atSecond, fieldsDecode, lessZone, thenZone, gsmDecode, decodeBy, fieldsEncode, encodeBy}
 use Rattle.registry.specs.declared.rules.Rule.{Rule}
 use Rattle.registry.specs.declared.rules.Rule.the-variants.{Civil, Gsm, NokiaLe, SqlServer}
 use Rattle.columns.specs.Columns.{instantOf, instantBytes, wordBytes, written, decodeRow, encodeRow, Column, rowThen, rowsOf}

@@ -9,7 +9,7 @@ use mir.Syntax.{w64}
 use mir.Val.{toZ, ofZ}
 use Rattle.refusal.specs.Answers.{Answer, gives, refused}
 use Rattle.octets.specs.Octets.{numberOf, bytesOf}
-use Rattle.civil.specs.declared.instants.Instant.{Instant}
+use Rattle.instant.specs.declared.instants.Instant.{Instant}
 use Rattle.registry.specs.Words.{ruleFor, decodeBy, encodeBy}
 use Rattle.registry.specs.declared.rules.Rule.{Rule}
 

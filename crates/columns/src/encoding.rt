@@ -3,7 +3,7 @@ ghost use mathlib.Core.Path.{_≡_};
 ghost use Prim.Native.Nat.{_*_, _≤_};
 ghost use lib.ListN.{length};
 ghost use Rattle.columns.specs.Columns.{instantOf, rowsOf, encodeRow, answer};
-use civil::Instant;
+use instant::Instant;
 use octets::get32;
 use octets::get64;
 use octets::put;

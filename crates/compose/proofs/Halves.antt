@@ -11,7 +11,7 @@ use mir.Val.{SFits, ofZ}
 use borrow.Author.Tests.{lt-ltb, le-ltb, ltb-true, ltb-false}
 use Rattle.refusal.specs.Answers.{gives, refused}
 use Rattle.signed.proofs.Differences.{minus, neg-plus, sub-ge, sub-lt}
-use Rattle.registry.proofs.Sizes.{times, times-plus}
+use Rattle.signed.proofs.Sizes.{times, times-plus}
 use Rattle.compose.specs.Pairs.{ticksOf, filetimeHilo, unixSecNsec}
 
 -- ---- filetime_hilo

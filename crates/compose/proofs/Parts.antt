@@ -14,8 +14,8 @@ use Rattle.refusal.specs.Answers.{Answer, refused}
 use Rattle.signed.specs.Extend.{twos, lowSigned}
 use Rattle.signed.proofs.Differences.{minus, times-plus}
 use Rattle.signed.proofs.Extend.{lower-half, upper-half}
-use Rattle.civil.specs.declared.instants.Instant.{Instant}
-use Rattle.registry.proofs.Sizes.{sum, times, sum-fits}
+use Rattle.signed.proofs.Sizes.{sum, times, sum-fits}
+use Rattle.instant.specs.declared.instants.Instant.{Instant}
 use Rattle.compose.specs.Stamps.{ofLength}
 
 -- ---- length

@@ -8,7 +8,7 @@ use mir.Syntax.{w32}
 use mir.Val.{ofZ}
 use Rattle.refusal.specs.Answers.{Answer, gives, refused}
 use Rattle.signed.specs.Floor.{floorDiv, floorRem}
-use Rattle.civil.specs.declared.instants.Instant.{Instant}
+use Rattle.instant.specs.declared.instants.Instant.{Instant}
 
 -- filetime_hilo: high * 2^32 + low ticks of 100 ns from 1601-01-01, which is second -11,644,473,600; 2 where the top bit is
 -- set

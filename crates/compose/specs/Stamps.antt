@@ -8,9 +8,9 @@ use lib.ListN.{length, getD, take, drop}
 use Rattle.refusal.specs.Answers.{Answer, gives, refused}
 use Rattle.signed.specs.Extend.{lowSigned}
 use Rattle.octets.specs.Octets.{numberOf}
+use Rattle.instant.specs.declared.instants.Instant.{Instant}
 use Rattle.civil.specs.Answers.{secondsFor}
 use Rattle.civil.specs.declared.times.Civil.{Civil}
-use Rattle.civil.specs.declared.instants.Instant.{Instant}
 
 abbrev pub byte : List ℕ → ℕ → ℕ
 byte b k = getD b k 0

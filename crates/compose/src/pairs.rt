@@ -1,10 +1,10 @@
 // Instants in two numbers.
 ghost use mathlib.Core.Path.{_≡_};
-ghost use Rattle.registry.specs.Answers.{readDecoded};
+ghost use Rattle.instant.specs.Answers.{readDecoded};
 ghost use Rattle.compose.specs.Pairs.{filetimeHilo, vmsdPair, unixSecNsec};
-use civil::Instant;
+use instant::Decoded;
+use instant::Instant;
 use refusal::Refusal;
-use registry::Decoded;
 use signed::div_floor;
 use signed::rem_floor;
 use signed::to_bits;

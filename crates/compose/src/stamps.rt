@@ -3,16 +3,16 @@ ghost use mathlib.Core.Path.{_≡_};
 ghost use Prim.Native.Nat.{_<_};
 ghost use lib.ListN.{length};
 ghost use lib.Signed.{mag};
+ghost use Rattle.instant.specs.Answers.{readDecoded};
 ghost use Rattle.civil.specs.Answers.{readSeconds, secondsFor};
-ghost use Rattle.registry.specs.Answers.{readDecoded};
 ghost use Rattle.compose.specs.Stamps.{oracleFields, oracleDate, cp56Fields, cp56, udfFields, udfMinutes, udfParts, udfStamp};
 use crate::bytes::byte_of;
 use crate::bytes::word_of;
-use civil::Instant;
 use civil::Seconds;
 use civil::seconds_at;
+use instant::Decoded;
+use instant::Instant;
 use refusal::Refusal;
-use registry::Decoded;
 use signed::sign_extended;
 
 // An Oracle DATE's civil time. The time of day is stored plus 1: a byte of 0 there is -1, and 255 stands for it, since

@@ -1,9 +1,9 @@
 // Writing to standard output. A function `say_..` ends its line. Each part of a line is a write of its own, which keeps the
 // proofs small, and one that fails goes unnoticed: what is missing is seen when the output is compared.
 use decimal::text_of;
+use instant::Decoded;
 use libc::STDOUT_FILENO;
 use refusal::Refusal;
-use registry::Decoded;
 
 fn put(text: &[u8]) {
     io::write_all(STDOUT_FILENO, text);

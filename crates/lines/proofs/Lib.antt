@@ -1,6 +1,5 @@
 -- The laws that the proofs cite. Assumes nothing.
 pub mod Narrow
 pub mod Texts
-pub mod Feeding
 pub mod Refusals
 pub mod Promises

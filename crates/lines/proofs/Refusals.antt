@@ -9,8 +9,10 @@ use borrow.Author.Tests.{ne-eqb, eqb-false, ltb-true, ltb-false, lt-leb}
 use lib.Dec.{T, eqb, ltb}
 use lib.IntN.{ℤ, pos, negsuc}
 use Rattle.refusal.specs.Answers.{Answer, gives, refused}
-use Rattle.civil.specs.declared.instants.Instant.{Instant}
-use Rattle.registry.specs.Words.{fieldsEncode, nokiaEncode, sqlEncode, encodeBy, ruleFor, encodeWith, encodeFor}
+use Rattle.instant.specs.declared.instants.Instant.{Instant}
+use Rattle.counts.specs.Nokia.{nokiaEncode}
+use Rattle.counts.specs.Sql.{sqlEncode}
+use Rattle.registry.specs.Words.{fieldsEncode, encodeBy, ruleFor, encodeWith, encodeFor}
 use Rattle.registry.specs.declared.rules.Rule.{Rule}
 use Rattle.registry.specs.declared.rules.Rule.the-variants.{Civil, Gsm, NokiaLe, SqlServer}
 use Rattle.lines.specs.Questions.{narrowed}

@@ -10,7 +10,7 @@ use lib.Dec.{leb}
 use lib.IntN.{ℤ, pos}
 use lib.ListN.{length, length-append, take-append-drop}
 use Rattle.refusal.specs.Answers.{Answer, gives, refused}
-use Rattle.civil.specs.declared.instants.Instant.{Instant}
+use Rattle.instant.specs.declared.instants.Instant.{Instant}
 use Rattle.decimal.specs.Write.{Written, written}
 use Rattle.decimal.proofs.Buffer.{fits, follows}
 use Rattle.decimal.proofs.Writing.{length-int}

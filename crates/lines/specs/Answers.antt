@@ -8,7 +8,7 @@ use lib.ListN.{length}
 use mir.Syntax.{w64}
 use mir.Val.{ofZ}
 use Rattle.refusal.specs.Answers.{Answer, gives, refused}
-use Rattle.civil.specs.declared.instants.Instant.{Instant}
+use Rattle.instant.specs.declared.instants.Instant.{Instant}
 use Rattle.decimal.specs.Write.{showInt, Written, written}
 use Rattle.registry.specs.Words.{decodeFor, encodeFor}
 use Rattle.lines.specs.Questions.{questionOf, narrowed}

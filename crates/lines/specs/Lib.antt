@@ -1,5 +1,4 @@
--- What the contracts cite, a file for each source module, and what is promised of the stream.
+-- What the contract cites, a file for each source module, and what is promised of it.
 pub mod Questions
 pub mod Answers
-pub mod Stream
 pub mod Promises

@@ -2,15 +2,15 @@
 ghost use mathlib.Core.Path.{_≡_};
 ghost use Prim.Native.Nat.{_+_, _≤_};
 ghost use lib.ListN.{length};
+ghost use Rattle.instant.specs.Answers.{readEncoded, readDecoded};
 ghost use Rattle.decimal.specs.Write.{showInt, written};
-ghost use Rattle.registry.specs.Answers.{readDecoded, readEncoded};
 ghost use Rattle.lines.specs.Questions.{narrowed};
 ghost use Rattle.lines.specs.Answers.{badLine, refusedText, instantText, decodedText, encodedText, answerText, placed, lineText};
 use crate::questions::Question;
 use crate::questions::question_in;
-use civil::Instant;
 use decimal::put;
 use decimal::text_of;
+use instant::Instant;
 use refusal::Refusal;
 use registry::Decoded;
 use registry::Encoded;

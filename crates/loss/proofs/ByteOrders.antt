@@ -3,9 +3,9 @@ use mathlib.Core.Path.{_≡_, refl, sym, _∙_, ap}
 use Prim.Native.Nat.{ℕ, _+_, _*_, _/_, _%_, _^_, _<_}
 use native.Mathlib.Omega.{arith}
 use lib.Pow.{shr-shr}
-use Rattle.registry.specs.Orders.{reversed, yearSwapped, ordered}
-use Rattle.registry.specs.declared.layouts.Order.{Order}
-use Rattle.registry.specs.declared.layouts.Order.the-variants.{Straight, Reversed, YearSwapped}
+use Rattle.places.specs.Orders.{reversed, yearSwapped, ordered}
+use Rattle.places.specs.declared.orders.Order.{Order}
+use Rattle.places.specs.declared.orders.Order.the-variants.{Straight, Reversed, YearSwapped}
 
 -- ---- four bytes
 

@@ -10,18 +10,19 @@ use lib.Signed.{ltZ}
 use borrow.Author.Tests.{le-ltb, eqb-true}
 use Rattle.refusal.specs.Answers.{gives}
 use Rattle.signed.proofs.Differences.{order}
+use Rattle.instant.specs.declared.instants.Instant.{Instant}
 use Rattle.civil.specs.Times.{secondsOf}
 use Rattle.civil.specs.Promises.{withSecond}
 use Rattle.civil.specs.declared.times.Civil.{Civil}
-use Rattle.civil.specs.declared.instants.Instant.{Instant}
 use Rattle.civil.proofs.Order.{secondsN, seconds-are}
 use Rattle.civil.proofs.Promises.{seconds-of-their-fields}
-use Rattle.registry.specs.Orders.{ordered}
-use Rattle.registry.specs.Reading.{base, stored, fieldsIn}
-use Rattle.registry.specs.Words.{fieldsDecode, fieldsEncode, layoutFor}
-use Rattle.registry.specs.declared.layouts.Layout.{Layout}
-use Rattle.registry.specs.declared.rules.Kind.{Kind}
-use Rattle.registry.specs.declared.rules.Kind.the-variants.{FatDos, ExFat, Dttm, BitDate, BitDec, Bcd, Moto, Symantec, Dvr, Ns40, Ns40Le, LogTime, SemiOctet}
+use Rattle.places.specs.Orders.{ordered}
+use Rattle.fields.specs.Reading.{base, stored, fieldsIn}
+use Rattle.fields.specs.Layouts.{layoutFor}
+use Rattle.fields.specs.declared.layouts.Layout.{Layout}
+use Rattle.fields.specs.declared.kinds.Kind.{Kind}
+use Rattle.fields.specs.declared.kinds.Kind.the-variants.{FatDos, ExFat, Dttm, BitDate, BitDec, Bcd, Moto, Symantec, Dvr, Ns40, Ns40Le, LogTime, SemiOctet}
+use Rattle.registry.specs.Words.{fieldsDecode, fieldsEncode}
 use Rattle.loss.specs.Loss.{NotAfter, plain}
 use Rattle.loss.proofs.Numbers.{kindNumber}
 use Rattle.loss.proofs.Regular.{Regular}

@@ -13,14 +13,14 @@ use mir.Val.{SFits, ofZ}
 use borrow.Author.Tests.{leb-true}
 use Rattle.refusal.specs.Answers.{Answer, gives, refused}
 use Rattle.refusal.proofs.Answers.{clash}
+use Rattle.signed.proofs.Tests.{and-left, and-right}
+use Rattle.instant.specs.declared.instants.Instant.{Instant}
 use Rattle.civil.specs.Times.{secondsOf}
 use Rattle.civil.specs.Promises.{withSecond}
-use Rattle.civil.specs.declared.instants.Instant.{Instant}
-use Rattle.signed.proofs.Tests.{and-left, and-right}
-use Rattle.registry.specs.Layouts.{gsm}
-use Rattle.registry.specs.Orders.{ordered}
+use Rattle.places.specs.Orders.{ordered}
+use Rattle.fields.specs.Layouts.{gsm}
+use Rattle.fields.specs.declared.layouts.Digits.the-variants.{SemiOctets}
 use Rattle.registry.specs.Words.{fieldsDecode, fieldsEncode, zoneSeconds, lessZone, thenZone, gsmDecode}
-use Rattle.registry.specs.declared.layouts.Digits.the-variants.{SemiOctets}
 use Rattle.loss.specs.Loss.{NotAfter, digits}
 use Rattle.loss.proofs.Chain.{multiple}
 use Rattle.loss.proofs.Regular.{regular-gsm}

@@ -13,21 +13,21 @@ use borrow.Author.Tests.{le-ltb, ltb-true, ltb-false}
 use Rattle.refusal.specs.Answers.{gives, refused}
 use Rattle.refusal.proofs.Answers.{clash}
 use Rattle.signed.proofs.Differences.{order}
+use Rattle.instant.specs.Instants.{decides}
+use Rattle.instant.specs.declared.instants.Instant.{Instant}
 use Rattle.civil.specs.Times.{good, secondsOf}
-use Rattle.civil.specs.Instants.{decides}
 use Rattle.civil.specs.Promises.{withSecond}
 use Rattle.civil.specs.declared.times.Civil.{Civil}
-use Rattle.civil.specs.declared.instants.Instant.{Instant}
 use Rattle.civil.proofs.Order.{secondsN, seconds-are}
 use Rattle.civil.proofs.Promises.{its-second}
-use Rattle.registry.specs.Orders.{ordered}
-use Rattle.registry.specs.Reading.{swapped, valueOf, fieldsIn}
+use Rattle.places.specs.Orders.{ordered}
+use Rattle.fields.specs.Reading.{swapped, valueOf, fieldsIn}
+use Rattle.fields.specs.declared.layouts.Field.{Field}
+use Rattle.fields.specs.declared.layouts.Layout.{Layout}
+use Rattle.fields.specs.declared.layouts.Digits.{Digits}
+use Rattle.fields.specs.declared.layouts.Digits.the-variants.{Bits, Pairs, SwappedPairs, SemiOctets}
+use Rattle.packing.proofs.Packing.{div-mono}
 use Rattle.registry.specs.Words.{atSecond, fieldsDecode}
-use Rattle.registry.specs.declared.layouts.Field.{Field}
-use Rattle.registry.specs.declared.layouts.Layout.{Layout}
-use Rattle.registry.specs.declared.layouts.Digits.{Digits}
-use Rattle.registry.specs.declared.layouts.Digits.the-variants.{Bits, Pairs, SwappedPairs, SemiOctets}
-use Rattle.registry.proofs.Packing.{div-mono}
 use Rattle.loss.specs.Loss.{NotAfter}
 use Rattle.loss.proofs.Regular.{StepOf}
 
@@ -73,9 +73,6 @@ pub record Said (l : Layout) (v : ℕ) (x : Instant) : Type 0 where
   pub good-fields : good (fieldsIn l (ordered (l .order) v)) ≡ true
   pub seconds : x .seconds ≡ secondsOf (fieldsIn l (ordered (l .order) v))
   pub below : ordered (l .order) v < l .words
-
-abbrev secondsIn : Instant → ℤ
-secondsIn t = t .seconds
 
 pub said : (l : Layout) (v : ℕ) (x : Instant) → fieldsDecode l v ≡ gives x → Said l v x
 unfolding fieldsDecode

@@ -11,8 +11,9 @@ use borrow.Author.Tests.{eqb-true}
 use Rattle.refusal.specs.Answers.{Answer, gives, refused}
 use Rattle.refusal.proofs.Answers.{clash}
 use Rattle.signed.proofs.Tests.{and-left, and-right}
-use Rattle.civil.specs.declared.instants.Instant.{Instant}
-use Rattle.registry.specs.Words.{layoutFor, ruleFor, decodeWith, encodeWith}
+use Rattle.instant.specs.declared.instants.Instant.{Instant}
+use Rattle.fields.specs.Layouts.{layoutFor}
+use Rattle.registry.specs.Words.{ruleFor, decodeWith, encodeWith}
 use Rattle.registry.specs.declared.rules.Rule.{Rule}
 use Rattle.registry.specs.declared.rules.Rule.the-variants.{Civil, Gsm, NokiaLe, SqlServer}
 use Rattle.loss.specs.Loss.{EveryWordDecodes, LatestOfAll, NearestTick, PlainWordsComeBack, Latest, plain, digits, zeroBits}

@@ -12,10 +12,10 @@ use mir.Val.{SFits, ofZ}
 use borrow.Author.Tests.{lt-ltb, le-ltb, ltb-true}
 use Rattle.refusal.specs.Answers.{gives, refused}
 use Rattle.refusal.proofs.Answers.{clash, held}
-use Rattle.civil.specs.declared.instants.Instant.{Instant}
-use Rattle.registry.specs.Orders.{reversed}
-use Rattle.registry.specs.Words.{nokiaDecode, nokiaWord, nokiaEncode}
-use Rattle.registry.proofs.NokiaSeconds.{reversed-small, counted}
+use Rattle.instant.specs.declared.instants.Instant.{Instant}
+use Rattle.places.specs.Orders.{reversed}
+use Rattle.counts.specs.Nokia.{nokiaDecode, nokiaWord, nokiaEncode}
+use Rattle.counts.proofs.NokiaSeconds.{reversed-small, counted}
 use Rattle.registry.proofs.Promises.{ranges}
 use Rattle.loss.specs.Loss.{Latest}
 use Rattle.loss.proofs.ByteOrders.{reversed-back}

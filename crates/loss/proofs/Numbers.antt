@@ -5,9 +5,9 @@ use Prim.Native.Nat.{ℕ}
 use lib.Dec.{eqb}
 use borrow.Author.Tests.{eqb-true}
 use Rattle.refusal.specs.Answers.{Answer, gives, refused}
+use Rattle.fields.specs.declared.kinds.Kind.{Kind}
+use Rattle.fields.specs.declared.kinds.Kind.the-variants.{FatDos, ExFat, Dttm, BitDate, BitDec, Bcd, Moto, Symantec, Dvr, Ns40, Ns40Le, LogTime, SemiOctet}
 use Rattle.registry.specs.Words.{ruleFor}
-use Rattle.registry.specs.declared.rules.Kind.{Kind}
-use Rattle.registry.specs.declared.rules.Kind.the-variants.{FatDos, ExFat, Dttm, BitDate, BitDec, Bcd, Moto, Symantec, Dvr, Ns40, Ns40Le, LogTime, SemiOctet}
 use Rattle.registry.specs.declared.rules.Rule.{Rule}
 use Rattle.registry.specs.declared.rules.Rule.the-variants.{Civil, Gsm, NokiaLe, SqlServer}
 

@@ -11,20 +11,20 @@ use mir.Syntax.{w64}
 use mir.Val.{SFits, ofZ}
 use borrow.Author.Tests.{le-leb, le-ltb}
 use Rattle.refusal.specs.Answers.{gives}
+use Rattle.instant.specs.declared.instants.Instant.{Instant}
 use Rattle.civil.specs.Times.{good, secondsOf}
 use Rattle.civil.specs.Promises.{Ranged}
 use Rattle.civil.specs.declared.times.Civil.{Civil}
-use Rattle.civil.specs.declared.instants.Instant.{Instant}
 use Rattle.civil.proofs.Promises.{fields-of-their-seconds, field-ranges}
-use Rattle.registry.specs.Orders.{ordered}
-use Rattle.registry.specs.Reading.{base, semi, stored, valueOf, valueIn, fieldsIn}
-use Rattle.registry.specs.Writing.{numeral, packed}
+use Rattle.places.specs.Orders.{ordered}
+use Rattle.fields.specs.Reading.{base, semi, stored, valueOf, valueIn, fieldsIn}
+use Rattle.fields.specs.declared.layouts.Field.{Field}
+use Rattle.fields.specs.declared.layouts.Layout.{Layout}
+use Rattle.fields.specs.declared.layouts.Digits.{Digits}
+use Rattle.fields.specs.declared.layouts.Digits.the-variants.{Bits, Pairs, SwappedPairs, SemiOctets}
+use Rattle.packing.specs.Writing.{numeral, packed}
+use Rattle.packing.proofs.Packing.{ordered-small}
 use Rattle.registry.specs.Words.{fieldsEncode}
-use Rattle.registry.specs.declared.layouts.Field.{Field}
-use Rattle.registry.specs.declared.layouts.Layout.{Layout}
-use Rattle.registry.specs.declared.layouts.Digits.{Digits}
-use Rattle.registry.specs.declared.layouts.Digits.the-variants.{Bits, Pairs, SwappedPairs, SemiOctets}
-use Rattle.registry.proofs.Packing.{ordered-small}
 use Rattle.registry.proofs.Promises.{ranges}
 use Rattle.loss.proofs.Chain.{Slot, Read, endOf, rebuilt}
 use Rattle.loss.proofs.ByteOrders.{ordered-back}

@@ -4,15 +4,16 @@ use mathlib.Core.Path.{_≡_, refl}
 use mathlib.Core.Logic.{_⊎_, inl, inr}
 use Prim.Native.Nat.{ℕ, _+_, _-_, _^_, _≤_}
 use native.Mathlib.Omega.{arith}
-use Rattle.registry.specs.Layouts.{gsm}
-use Rattle.registry.specs.Words.{layoutFor}
-use Rattle.registry.specs.Parts.{Sound, Writable}
-use Rattle.registry.specs.declared.layouts.Layout.{Layout}
-use Rattle.registry.specs.declared.layouts.Digits.{Digits}
-use Rattle.registry.specs.declared.layouts.Digits.the-variants.{Bits, Pairs, SwappedPairs, SemiOctets}
-use Rattle.registry.specs.declared.rules.Kind.{Kind}
-use Rattle.registry.specs.declared.rules.Kind.the-variants.{FatDos, ExFat, Dttm, BitDate, BitDec, Bcd, Moto, Symantec, Dvr, Ns40, Ns40Le, LogTime, SemiOctet}
-use Rattle.registry.proofs.Fourteen.{sound, writable, gsm-sound, gsm-writable}
+use Rattle.fields.specs.Layouts.{gsm, layoutFor}
+use Rattle.fields.specs.Parts.{Sound}
+use Rattle.fields.specs.declared.layouts.Layout.{Layout}
+use Rattle.fields.specs.declared.layouts.Digits.{Digits}
+use Rattle.fields.specs.declared.layouts.Digits.the-variants.{Bits, Pairs, SwappedPairs, SemiOctets}
+use Rattle.fields.specs.declared.kinds.Kind.{Kind}
+use Rattle.fields.specs.declared.kinds.Kind.the-variants.{FatDos, ExFat, Dttm, BitDate, BitDec, Bcd, Moto, Symantec, Dvr, Ns40, Ns40Le, LogTime, SemiOctet}
+use Rattle.fields.proofs.Fourteen.{sound, gsm-sound}
+use Rattle.packing.specs.Parts.{Writable}
+use Rattle.packing.proofs.Fourteen.{writable, gsm-writable}
 
 -- from the second up to the year, or from the year up to the second
 pub record Down (l : Layout) : Type 0 where

@@ -18,22 +18,22 @@ use Rattle.gregorian.specs.Gregorian.{yearDays, yearAt, yearsTo, daysOfYears}
 use Rattle.gregorian.proofs.YearSums.{closed-is, years-suc}
 use Rattle.gregorian.proofs.Wholes.{rises}
 use Rattle.gregorian.proofs.Trip.{in-its-year}
+use Rattle.instant.specs.declared.instants.Instant.{Instant}
 use Rattle.civil.specs.Times.{inWindow, good, secondsOf, fieldsAt}
 use Rattle.civil.specs.Answers.{fieldsFor}
 use Rattle.civil.specs.Promises.{Ranged, withSecond}
 use Rattle.civil.specs.declared.times.Civil.{Civil}
-use Rattle.civil.specs.declared.instants.Instant.{Instant}
 use Rattle.civil.proofs.Window.{time-good}
 use Rattle.civil.proofs.Days.{window-high}
 use Rattle.civil.proofs.Order.{secondsN, seconds-are}
 use Rattle.civil.proofs.Promises.{seconds-of-their-fields, field-ranges, its-date, its-window, its-hour, its-minute, its-second}
-use Rattle.registry.specs.Orders.{ordered}
-use Rattle.registry.specs.Reading.{fieldsIn}
-use Rattle.registry.specs.Writing.{packed, writes}
-use Rattle.registry.specs.Words.{fieldsDecode, writeFields, fieldsEncode}
-use Rattle.registry.specs.Parts.{Packing}
-use Rattle.registry.specs.declared.layouts.Layout.{Layout}
-use Rattle.registry.proofs.Packing.{packed-words}
+use Rattle.places.specs.Orders.{ordered}
+use Rattle.fields.specs.Reading.{fieldsIn}
+use Rattle.fields.specs.declared.layouts.Layout.{Layout}
+use Rattle.packing.specs.Writing.{packed, writes, writeFields}
+use Rattle.packing.specs.Parts.{Packing}
+use Rattle.packing.proofs.Packing.{packed-words}
+use Rattle.registry.specs.Words.{fieldsDecode, fieldsEncode}
 use Rattle.loss.proofs.ByteOrders.{ordered-back}
 use Rattle.loss.proofs.Regular.{Regular}
 use Rattle.loss.proofs.Trip.{cutCivil, fields-back}

@@ -20,9 +20,10 @@ use Rattle.signed.proofs.Differences.{sub-ge, sub-lt, neg-plus, across, plus, t
 use Rattle.signed.proofs.Floor.{floor-law, floor-back}
 use Rattle.signed.proofs.Extend.{lower-half, upper-half}
 use Rattle.signed.proofs.Tests.{test-ge, and-left}
-use Rattle.civil.specs.declared.instants.Instant.{Instant}
-use Rattle.registry.specs.Words.{sqlDay, sqlTicks, sqlDecode, nearestTick, dayWord, rolled, sqlWord, sqlEncode, ruleFor}
-use Rattle.registry.proofs.SqlDays.{no-ticks, ticks, time-small}
+use Rattle.instant.specs.declared.instants.Instant.{Instant}
+use Rattle.counts.specs.Sql.{sqlDay, sqlTicks, sqlDecode, nearestTick, dayWord, rolled, sqlWord, sqlEncode}
+use Rattle.counts.proofs.SqlDays.{no-ticks, ticks, time-small}
+use Rattle.registry.specs.Words.{ruleFor}
 use Rattle.loss.specs.Loss.{Decodes, exactTicks, thirds, Nearest}
 use Rattle.loss.proofs.Round.{given-under}
 

@@ -8,9 +8,10 @@ use Rattle.gregorian.proofs.YearSums.{closed-is}
 use Rattle.civil.specs.Times.{good, secondsOf, fieldsAt}
 use Rattle.civil.specs.declared.times.Civil.{Civil}
 use Rattle.civil.proofs.Promises.{fields-of-their-seconds}
-use Rattle.registry.specs.Orders.{ordered}
-use Rattle.registry.specs.Reading.{valueOf, fieldsIn}
-use Rattle.registry.specs.Words.{fieldsDecode, lessZone, gsmDecode, fieldsEncode, sqlWord, sqlEncode, ruleFor}
+use Rattle.places.specs.Orders.{ordered}
+use Rattle.fields.specs.Reading.{valueOf, fieldsIn}
+use Rattle.counts.specs.Sql.{sqlWord, sqlEncode}
+use Rattle.registry.specs.Words.{fieldsDecode, lessZone, gsmDecode, fieldsEncode, ruleFor}
 use Rattle.loss.specs.Surprises.{ZoneLeavesTheYears, RollAtTheEnds}
 
 -- 21:30 on the last day of 1999

@@ -8,14 +8,15 @@ use native.Mathlib.Omega.{arith}
 use lib.IntN.{pos}
 use borrow.Author.Tests.{le-ltb}
 use Rattle.civil.specs.declared.times.Civil.{Civil}
-use Rattle.registry.specs.Reading.{base, semi, stored, valueOf, fieldsIn}
-use Rattle.registry.specs.Writing.{steps, numeral, packed}
-use Rattle.registry.specs.Parts.{InWord, TwoDigits, Fitting, Holds, Packing}
-use Rattle.registry.specs.declared.layouts.Field.{Field}
-use Rattle.registry.specs.declared.layouts.Layout.{Layout}
-use Rattle.registry.specs.declared.layouts.Digits.{Digits}
-use Rattle.registry.specs.declared.layouts.Digits.the-variants.{Bits, Pairs, SwappedPairs, SemiOctets}
-use Rattle.registry.proofs.Packing.{div-mono, packs}
+use Rattle.fields.specs.Reading.{base, semi, stored, valueOf, fieldsIn}
+use Rattle.fields.specs.Parts.{InWord}
+use Rattle.fields.specs.declared.layouts.Field.{Field}
+use Rattle.fields.specs.declared.layouts.Layout.{Layout}
+use Rattle.fields.specs.declared.layouts.Digits.{Digits}
+use Rattle.fields.specs.declared.layouts.Digits.the-variants.{Bits, Pairs, SwappedPairs, SemiOctets}
+use Rattle.packing.specs.Writing.{steps, numeral, packed}
+use Rattle.packing.specs.Parts.{TwoDigits, Fitting, Holds, Packing}
+use Rattle.packing.proofs.Packing.{div-mono, packs}
 use Rattle.loss.proofs.Chain.{Slot, sumOf, Chain, Got, got}
 use Rattle.loss.proofs.Regular.{Down, Up, Regular}
 

@@ -10,9 +10,10 @@ use lib.Signed.{_≤ℤ_}
 use mir.Syntax.{w64}
 use mir.Val.{SFits, ofZ}
 use Rattle.refusal.specs.Answers.{gives}
-use Rattle.civil.specs.Instants.{isBefore}
-use Rattle.civil.specs.declared.instants.Instant.{Instant}
-use Rattle.registry.specs.Words.{decodeFor, encodeFor, sqlDay, sqlTicks}
+use Rattle.instant.specs.Instants.{isBefore}
+use Rattle.instant.specs.declared.instants.Instant.{Instant}
+use Rattle.counts.specs.Sql.{sqlDay, sqlTicks}
+use Rattle.registry.specs.Words.{decodeFor, encodeFor}
 
 -- what the word w of layout n says
 abbrev pub says : ℕ → ℤ → Instant → Type 0

@@ -3,7 +3,7 @@ use mathlib.Core.Path.{_≡_}
 use Prim.Native.Nat.{ℕ}
 use lib.IntN.{ℤ, pos, negℤ}
 use Rattle.refusal.specs.Answers.{gives, refused}
-use Rattle.civil.specs.declared.instants.Instant.{Instant}
+use Rattle.instant.specs.declared.instants.Instant.{Instant}
 use Rattle.registry.specs.Words.{decodeFor, encodeFor}
 
 abbrev pub at : ℤ → ℕ → Instant

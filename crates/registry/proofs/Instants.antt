@@ -1,4 +1,4 @@
--- Instants by their parts, and how large the seconds of one are that civil fields give.
+-- What is decoded by civil fields, and how large the seconds of an instant are that they give.
 use mathlib.Core.Path.{_≡_, sym, ap}
 use mathlib.Core.Bool.{Bool, true, false, cond}
 use Prim.Native.Nat.{ℕ, _<_, _^_}
@@ -7,18 +7,15 @@ use lib.IntN.{ℤ}
 use lib.Signed.{mag}
 use Rattle.refusal.specs.Answers.{Answer, gives, refused}
 use Rattle.refusal.proofs.Answers.{clash, failed, held}
+use Rattle.instant.specs.declared.instants.Instant.{Instant}
 use Rattle.civil.specs.Answers.{secondsFor}
-use Rattle.civil.specs.declared.instants.Instant.{Instant}
 use Rattle.civil.specs.declared.times.Civil.{Civil}
 use Rattle.civil.proofs.Answers.{small-seconds}
-use Rattle.registry.specs.Orders.{ordered}
-use Rattle.registry.specs.Reading.{fieldsIn}
+use Rattle.places.specs.Orders.{ordered}
+use Rattle.fields.specs.Reading.{fieldsIn}
+use Rattle.fields.specs.Parts.{readBy}
+use Rattle.fields.specs.declared.layouts.Layout.{Layout}
 use Rattle.registry.specs.Words.{atSecond, fieldsDecode}
-use Rattle.registry.specs.Parts.{readBy}
-use Rattle.registry.specs.declared.layouts.Layout.{Layout}
-
-pub of-parts : {t : Instant} {s : ℤ} {n : ℕ} → (t .seconds ≡ s) × (t .nanos ≡ n) → gives t ≡ gives (record { seconds = s; nanos = n })
-of-parts e = λ i. gives (record { seconds = e .0 i; nanos = e .1 i })
 
 -- an instant that is given has the seconds that are given
 its-seconds : (t : Instant) (b : Bool) (x : Answer ℤ) → gives t ≡ cond b (atSecond x) (refused 2) → gives (t .seconds) ≡ x

@@ -1,13 +1,5 @@
-pub mod Powers
-pub mod Values
-pub mod Packing
-pub mod Sizes
 pub mod Instants
 pub mod Zones
-pub mod NokiaSeconds
-pub mod SqlDays
-pub mod Encoding
-pub mod Fourteen
 pub mod RuleNumbers
 pub mod RuleTags
 pub mod Stamps

@@ -3,13 +3,14 @@ use mathlib.Core.Path.{_≡_, refl, ap}
 use native.Mathlib.Omega.{arith}
 use Rattle.refusal.specs.Answers.{refused}
 use Rattle.refusal.proofs.Answers.{only, same-refusal}
-use Rattle.registry.specs.Orders.{reversed, yearSwapped}
-use Rattle.registry.specs.Answers.{readPicked, readDecoded, readEncoded}
+use Rattle.instant.specs.Answers.{readEncoded, readDecoded}
+use Rattle.instant.specs.declared.answers.Encoded.{Encoded}
+use Rattle.instant.specs.declared.answers.Encoded.the-variants as encoded
+use Rattle.instant.specs.declared.answers.Decoded.{Decoded}
+use Rattle.instant.specs.declared.answers.Decoded.the-variants as decoded
+use Rattle.places.specs.Orders.{reversed, yearSwapped}
+use Rattle.registry.specs.Answers.{readPicked}
 use Rattle.registry.specs.Promises.{Ranges, NearTick, OneAnswer}
-use Rattle.registry.specs.declared.read.Decoded.{Decoded}
-use Rattle.registry.specs.declared.read.Decoded.the-variants as decoded
-use Rattle.registry.specs.declared.write.Encoded.{Encoded}
-use Rattle.registry.specs.declared.write.Encoded.the-variants as encoded
 use Rattle.registry.specs.declared.rules.Picked.{Picked}
 use Rattle.registry.specs.declared.rules.Picked.the-variants as picked
 

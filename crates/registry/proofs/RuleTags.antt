@@ -9,8 +9,8 @@ use native.Mathlib.Omega.{arith}
 use lib.Dec.{T}
 use denote.Enum.Declared.{tagOf}
 use types.Run.{OneOf}
-use Rattle.registry.specs.Layouts.{gsm}
-use Rattle.civil.specs.declared.instants.Instant.{Instant}
+use Rattle.instant.specs.declared.instants.Instant.{Instant}
+use Rattle.fields.specs.Layouts.{gsm}
 use Rattle.registry.specs.Words.{fieldsDecode, fieldsEncode, decodeBy, encodeBy}
 use Rattle.registry.specs.Parts.{fielded, layoutOf}
 use Rattle.registry.specs.declared.rules.Rule.{Rule}

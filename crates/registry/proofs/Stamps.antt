@@ -2,9 +2,11 @@
 use Rattle.gregorian.specs.Gregorian.{leap, daysOfMonths, daysTo, dayNumber}
 use Rattle.gregorian.proofs.YearSums.{closed-is}
 use Rattle.civil.specs.Times.{secondsOf}
-use Rattle.registry.specs.Orders.{reversed, ordered}
-use Rattle.registry.specs.Reading.{valueOf, fieldsIn}
-use Rattle.registry.specs.Words.{fieldsDecode, lessZone, gsmDecode, nokiaDecode, sqlDecode, sqlWord, sqlEncode, ruleFor}
+use Rattle.places.specs.Orders.{reversed, ordered}
+use Rattle.fields.specs.Reading.{valueOf, fieldsIn}
+use Rattle.counts.specs.Nokia.{nokiaDecode}
+use Rattle.counts.specs.Sql.{sqlDecode, sqlWord, sqlEncode}
+use Rattle.registry.specs.Words.{fieldsDecode, lessZone, gsmDecode, ruleFor}
 use Rattle.registry.specs.Stamps.{Stamps}
 
 pub stamps-hold : Stamps

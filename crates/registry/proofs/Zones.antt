@@ -4,7 +4,7 @@ use Prim.Native.Nat.{ℕ, _/_, _%_, _<_, _≤_}
 use lib.IntN.{pos, negℤ-negℤ, _+ℤ_, _-ℤ_}
 use borrow.Author.Tests.{le-leb, lt-leb, eq-eqb, ne-eqb}
 use Rattle.refusal.specs.Answers.{gives, refused}
-use Rattle.civil.specs.declared.instants.Instant.{Instant}
+use Rattle.instant.specs.declared.instants.Instant.{Instant}
 use Rattle.registry.specs.Words.{zoneSize, lessZone}
 
 pub no-zone : (z : ℕ) (t : Instant) → 9 < z / 16 → lessZone z t ≡ refused 4

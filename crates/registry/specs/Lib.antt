@@ -1,7 +1,3 @@
-pub mod Orders
-pub mod Layouts
-pub mod Reading
-pub mod Writing
 pub mod Words
 pub mod Answers
 pub mod Stamps

@@ -6,12 +6,13 @@ use lib.IntN.{ℤ, negsuc}
 use mir.Syntax.{w64}
 use mir.Val.{SFits, ofZ}
 use Rattle.refusal.specs.Answers.{Answer}
-use Rattle.civil.specs.declared.instants.Instant.{Instant}
-use Rattle.registry.specs.Orders.{reversed, yearSwapped}
-use Rattle.registry.specs.Words.{nearestTick}
-use Rattle.registry.specs.Answers.{readPicked, readDecoded, readEncoded}
-use Rattle.registry.specs.declared.read.Decoded.{Decoded}
-use Rattle.registry.specs.declared.write.Encoded.{Encoded}
+use Rattle.instant.specs.declared.instants.Instant.{Instant}
+use Rattle.instant.specs.Answers.{readEncoded, readDecoded}
+use Rattle.instant.specs.declared.answers.Encoded.{Encoded}
+use Rattle.instant.specs.declared.answers.Decoded.{Decoded}
+use Rattle.places.specs.Orders.{reversed, yearSwapped}
+use Rattle.counts.specs.Sql.{nearestTick}
+use Rattle.registry.specs.Answers.{readPicked}
 use Rattle.registry.specs.declared.rules.Rule.{Rule}
 use Rattle.registry.specs.declared.rules.Picked.{Picked}
 

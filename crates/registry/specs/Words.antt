@@ -1,22 +1,20 @@
 -- What each of the sixteen words says, and the word of an instant, in the order of document 01. A word is its 64 bits.
-use mathlib.Core.Bool.{cond, _&&_}
+use mathlib.Core.Bool.{cond}
 use Prim.Native.Nat.{ℕ, _+_, _*_, _/_, _%_, _^_}
 use lib.Dec.{eqb, ltb, leb}
-use lib.IntN.{ℤ, pos, negsuc, negℤ, natAbs, _+ℤ_, _-ℤ_, _*ℤ_}
-use lib.Signed.{leZ, ltZ}
+use lib.IntN.{ℤ, pos, negℤ, _-ℤ_}
 use Rattle.refusal.specs.Answers.{Answer, gives, refused}
-use Rattle.signed.specs.Floor.{floorDiv, floorRem}
-use Rattle.signed.specs.Extend.{twos}
+use Rattle.instant.specs.Answers.{withNanos}
+use Rattle.instant.specs.declared.instants.Instant.{Instant}
 use Rattle.civil.specs.Answers.{secondsFor, fieldsFor}
-use Rattle.civil.specs.declared.times.Civil as civil
-use Rattle.civil.specs.declared.instants.Instant.{Instant}
-use Rattle.registry.specs.Orders.{reversed, ordered}
-use Rattle.registry.specs.Layouts.{fatDos, dttm, bitDate, bitDec, bcd, moto, symantec, dvr, ns40, ns40Le, logTime, semiOctet, gsm}
-use Rattle.registry.specs.Reading.{fieldsIn}
-use Rattle.registry.specs.Writing.{packed, writes}
-use Rattle.registry.specs.declared.layouts.Layout.{Layout}
-use Rattle.registry.specs.declared.rules.Kind.{Kind}
-use Rattle.registry.specs.declared.rules.Kind.the-variants.{FatDos, ExFat, Dttm, BitDate, BitDec, Bcd, Moto, Symantec, Dvr, Ns40, Ns40Le, LogTime, SemiOctet}
+use Rattle.places.specs.Orders.{ordered}
+use Rattle.fields.specs.Layouts.{gsm, layoutFor}
+use Rattle.fields.specs.Reading.{fieldsIn}
+use Rattle.fields.specs.declared.layouts.Layout.{Layout}
+use Rattle.fields.specs.declared.kinds.Kind.the-variants.{FatDos, ExFat, Dttm, BitDate, BitDec, Bcd, Moto, Symantec, Dvr, Ns40, Ns40Le, LogTime, SemiOctet}
+use Rattle.packing.specs.Writing.{writeFields}
+use Rattle.counts.specs.Nokia.{nokiaDecode, nokiaEncode}
+use Rattle.counts.specs.Sql.{sqlDecode, sqlEncode}
 use Rattle.registry.specs.declared.rules.Rule.{Rule}
 use Rattle.registry.specs.declared.rules.Rule.the-variants.{Civil, Gsm, NokiaLe, SqlServer}
 
@@ -51,44 +49,6 @@ thenZone z (refused n) = refused n
 unfoldable pub gsmDecode : ℕ → Answer Instant
 gsmDecode w = thenZone (w % 2 ^ 8) (fieldsDecode gsm w)
 
--- 15: bytes reversed to p; p - 4,294,967,295 + 2,524,608,000 seconds
-unfoldable pub nokiaDecode : ℕ → Answer Instant
-nokiaDecode w =
-    cond (ltb w (2 ^ 32)) (gives (record { seconds = pos (reversed w) -ℤ pos 4294967295 +ℤ pos 2524608000; nanos = 0 })) (refused 2)
-
--- 16: bits 32..63 are signed days from 1900-01-01, which is second -2,208,988,800, and bits 0..31 ticks of 1/300 s, cut
--- down to a whole nanosecond; 5 for ticks of a day or more
-abbrev pub sqlDay : ℕ → ℤ
-sqlDay w = twos 32 (w / 2 ^ 32 % 2 ^ 32)
-
-abbrev pub sqlTicks : ℕ → ℕ
-sqlTicks w = w % 2 ^ 32
-
-abbrev pub tickNanos : ℕ → ℕ
-tickNanos k = k * 1000000000 / 300
-
-unfoldable pub sqlDecode : ℕ → Answer Instant
-sqlDecode w =
-    cond (ltb (sqlTicks w) 25920000)
-    (gives (record { seconds = sqlDay w *ℤ pos 86400 +ℤ pos (tickNanos (sqlTicks w) / 1000000000) -ℤ pos 2208988800; nanos = tickNanos (sqlTicks w) % 1000000000 }))
-    (refused 5)
-
--- the layouts 1 to 13
-abbrev pub layoutFor : Kind → Layout
-layoutFor FatDos = fatDos
-layoutFor ExFat = fatDos
-layoutFor Dttm = dttm
-layoutFor BitDate = bitDate
-layoutFor BitDec = bitDec
-layoutFor Bcd = bcd
-layoutFor Moto = moto
-layoutFor Symantec = symantec
-layoutFor Dvr = dvr
-layoutFor Ns40 = ns40
-layoutFor Ns40Le = ns40Le
-layoutFor LogTime = logTime
-layoutFor SemiOctet = semiOctet
-
 abbrev pub decodeBy : Rule → ℕ → Answer Instant
 decodeBy (Civil k) w = fieldsDecode (layoutFor k) w
 decodeBy Gsm w = gsmDecode w
@@ -97,44 +57,9 @@ decodeBy SqlServer w = sqlDecode w
 
 -- ---- encoding
 
--- 9 for nanoseconds above 999,999,999, before anything else of the instant is looked at
-abbrev pub withNanos : Instant → Answer ℤ → Answer ℤ
-withNanos t answer = cond (leb (t .nanos) 999999999) answer (refused 9)
-
--- by civil fields: 6 for seconds outside the window, 7 for a year that the layout does not write
-abbrev pub writeFields : Layout → Answer civil.Civil → Answer ℤ
-writeFields l (gives c) = cond (writes l (c .year)) (gives (pos (ordered (l .order) (packed l (natAbs (c .year)) c)))) (refused 7)
-writeFields l (refused n) = refused n
-
+-- by civil fields: 9, then 6 and 7
 unfoldable pub fieldsEncode : Layout → Instant → Answer ℤ
 fieldsEncode l t = withNanos t (writeFields l (fieldsFor (t .seconds)))
-
--- 15: p is seconds + 4,294,967,295 - 2,524,608,000; 8 where 32 bits do not hold it
-abbrev pub nokiaWord : ℤ → Answer ℤ
-nokiaWord (pos p) = cond (ltb p (2 ^ 32)) (gives (pos (reversed p))) (refused 8)
-nokiaWord (negsuc n) = refused 8
-
-unfoldable pub nokiaEncode : Instant → Answer ℤ
-nokiaEncode t = withNanos t (nokiaWord (t .seconds +ℤ pos 4294967295 -ℤ pos 2524608000))
-
--- 16: the nearest tick of r nanoseconds of a day, a half going up
-abbrev pub nearestTick : ℕ → ℕ
-nearestTick r = (3 * r + 5000000) / 10000000
-
--- a day above its ticks; 8 where 32 signed bits do not hold the day
-abbrev pub dayWord : ℤ → ℕ → Answer ℤ
-dayWord d k = cond (leZ (negℤ (pos (2 ^ 31))) d && ltZ d (pos (2 ^ 31))) (gives (d *ℤ pos (2 ^ 32) +ℤ pos k)) (refused 8)
-
--- a full day's ticks are tick 0 of the next day
-abbrev pub rolled : ℤ → ℕ → Answer ℤ
-rolled d k = cond (eqb k 25920000) (dayWord (d +ℤ pos 1) 0) (dayWord d k)
-
--- of seconds from 1900-01-01 and nanoseconds
-unfoldable pub sqlWord : ℤ → ℕ → Answer ℤ
-sqlWord z n = rolled (floorDiv z 86400) (nearestTick (floorRem z 86400 * 1000000000 + n))
-
-unfoldable pub sqlEncode : Instant → Answer ℤ
-sqlEncode t = withNanos t (sqlWord (t .seconds +ℤ pos 2208988800) (t .nanos))
 
 abbrev pub encodeBy : Rule → Instant → Answer ℤ
 encodeBy (Civil k) t = fieldsEncode (layoutFor k) t

@@ -3,39 +3,25 @@ ghost use mathlib.Core.Path.{_≡_};
 ghost use mathlib.Core.Bool.{true, false};
 ghost use mir.Syntax.{w64};
 ghost use mir.Val.{ofZ};
+ghost use Rattle.instant.specs.Answers.{readEncoded, readDecoded};
 ghost use Rattle.registry.specs.Words.{ruleFor, decodeBy, encodeBy, decodeFor, encodeFor};
-ghost use Rattle.registry.specs.Answers.{readDecoded, readEncoded, readPicked};
+ghost use Rattle.registry.specs.Answers.{readPicked};
 ghost use Rattle.registry.specs.Parts.{fielded};
 use crate::from_fields::decode_local;
-use crate::nokia::decode_nokia;
-use crate::nokia::encode_nokia;
-use crate::read::Decoded;
-use crate::sql::decode_sql;
-use crate::sql::encode_sql;
 use crate::to_fields::encode_fields;
-use crate::write::Encoded;
 use crate::zone::then_zone;
-use civil::Instant;
+use counts::decode_nokia;
+use counts::decode_sql;
+use counts::encode_nokia;
+use counts::encode_sql;
+use fields::Kind;
+use instant::Decoded;
+use instant::Encoded;
+use instant::Instant;
 use refusal::Refusal;
 use signed::to_bits;
 
-// The layouts of civil fields and nothing else.
-pub enum Kind {
-    FatDos,
-    ExFat,
-    Dttm,
-    BitDate,
-    BitDec,
-    Bcd,
-    Moto,
-    Symantec,
-    Dvr,
-    Ns40,
-    Ns40Le,
-    LogTime,
-    SemiOctet,
-}
-
+// Civil fields of a kind, civil fields and a zone, and two that count from an epoch.
 pub enum Rule {
     Civil(Kind),
     Gsm,

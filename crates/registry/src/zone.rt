@@ -2,11 +2,11 @@
 ghost use mathlib.Core.Path.{_≡_};
 ghost use Prim.Native.Nat.{_<_, _^_};
 ghost use lib.Signed.{mag};
-ghost use Rattle.registry.specs.Layouts.{gsm};
+ghost use Rattle.instant.specs.Answers.{readDecoded};
+ghost use Rattle.fields.specs.Layouts.{gsm};
 ghost use Rattle.registry.specs.Words.{fieldsDecode, lessZone, gsmDecode};
-ghost use Rattle.registry.specs.Answers.{readDecoded};
-use crate::read::Decoded;
-use civil::Instant;
+use instant::Decoded;
+use instant::Instant;
 use refusal::Refusal;
 
 // An instant less the offset of a zone byte: bit 3 is the sign, bits 0..2 are tens and the high nibble units of quarter

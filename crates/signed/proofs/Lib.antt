@@ -3,3 +3,4 @@ pub mod Tests
 pub mod Machine
 pub mod Floor
 pub mod Extend
+pub mod Sizes

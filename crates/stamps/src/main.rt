@@ -1,4 +1,4 @@
-// The line program: a line of standard input to a line of standard output, as `lines` has it.
+// The line program: a line of standard input to a line of standard output, as `stream` has it.
 //
 //   d LAYOUT WORD            the instant that a word says, as SECONDS NANOS, or `refused N`
 //   e LAYOUT SECONDS NANOS   the word of an instant, or `refused N`
@@ -12,8 +12,8 @@ ghost use lib.ListN.{length};
 use blocks::first;
 use libc::STDIN_FILENO;
 use libc::STDOUT_FILENO;
-use lines::feed;
-use lines::last_line;
+use stream::feed;
+use stream::last_line;
 
 // How many bytes of a line are held, and how many turns are left.
 struct Turned {

@@ -5,7 +5,7 @@ use crate::tally::judged;
 use crate::tally::print_tally;
 use crate::tally::sum;
 use crate::words::comes_back;
-use civil::Instant;
+use instant::Instant;
 use registry::Decoded;
 use registry::Encoded;
 use registry::decode;

@@ -6,7 +6,7 @@ use crate::tally::print_tally;
 use crate::tally::sum;
 use crate::words::has_word;
 use crate::words::is_plain;
-use civil::Instant;
+use instant::Instant;
 use registry::Decoded;
 use registry::Encoded;
 use registry::decode;

@@ -1,7 +1,7 @@
 // What is tried of one word.
 use crate::tally::Outcome;
 use crate::tally::judged;
-use civil::Instant;
+use instant::Instant;
 use registry::Decoded;
 use registry::Encoded;
 use registry::decode;

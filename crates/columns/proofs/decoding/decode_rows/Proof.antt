@@ -6,7 +6,7 @@ use native.Mathlib.Omega.{arith}
 use lib.ListN.{length, take, drop}
 use denote.Ref.{now}
 use Rattle.refusal.specs.Answers.{gives}
-use Rattle.registry.specs.Answers.{readDecoded}
+use Rattle.instant.specs.Answers.{readDecoded}
 use Rattle.registry.specs.Words.{decodeBy}
 use Rattle.columns.specs.Columns.{instantBytes, written, decodeRow}
 use Rattle.columns.proofs.Bytes.{instant-length}

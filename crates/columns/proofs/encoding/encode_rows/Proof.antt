@@ -9,7 +9,7 @@ use denote.Ref.{now}
 use mir.Syntax.{w64}
 use mir.Facts.{toZ-ofZ}
 use Rattle.refusal.specs.Answers.{gives}
-use Rattle.registry.specs.Answers.{readEncoded}
+use Rattle.instant.specs.Answers.{readEncoded}
 use Rattle.registry.specs.Words.{encodeBy}
 use Rattle.columns.specs.Columns.{wordBytes, written, encodeRow}
 use Rattle.columns.proofs.Bytes.{word-length}

@@ -6,8 +6,8 @@ use lib.IntN.{pos, _-ℤ_}
 use mir.Syntax.{w64}
 use mir.Val.{SFits, toZ}
 use mir.Facts.{toZ-ofZ, toZ-pos}
-use Rattle.registry.proofs.Sizes.{less-fits}
-use Rattle.registry.proofs.Instants.{of-parts}
+use Rattle.signed.proofs.Sizes.{less-fits}
+use Rattle.instant.proofs.Parts.{of-parts}
 use Rattle.compose.specs.Pairs.{ticksOf}
 use Rattle.compose.proofs.Halves.{top-bit, no-top-bit}
 use native.Mathlib.Omega.{arith}

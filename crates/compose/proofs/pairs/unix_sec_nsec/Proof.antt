@@ -8,7 +8,7 @@ use lib.Signed.{ltZ}
 use mir.Syntax.{w64}
 use mir.Val.{toZ}
 use mir.Facts.{toZ-ofZ, toZ-pos}
-use Rattle.registry.proofs.Instants.{of-parts}
+use Rattle.instant.proofs.Parts.{of-parts}
 use Rattle.compose.proofs.Halves.{room-fits, no-room, carry-fits, carries}
 use native.Mathlib.Omega.{arith}
 use Rattle.compose.proofs.pairs.unix_sec_nsec.Statement.{statement}

@@ -7,8 +7,8 @@ use mir.Syntax.{w32, w64}
 use mir.Val.{SFits, toZ, ofZ}
 use mir.Facts.{toZ-ofZ, toZ-pos}
 use Rattle.signed.specs.Floor.{floorRem}
-use Rattle.registry.proofs.Instants.{of-parts}
 use Rattle.signed.proofs.Floor.{floor-law}
+use Rattle.instant.proofs.Parts.{of-parts}
 use Rattle.compose.specs.Pairs.{microsOf, vmsdPair}
 use Rattle.compose.proofs.Halves.{wider, low-half, micros-fit}
 use native.Mathlib.Omega.{arith}

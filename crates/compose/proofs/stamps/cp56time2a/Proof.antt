@@ -5,8 +5,8 @@ use mir.Syntax.{w64}
 use mir.Facts.{toZ-ofZ}
 use Rattle.civil.specs.Answers.{readSeconds, secondsFor}
 use Prim.Native.Nat.{_*_, _%_}
+use Rattle.instant.proofs.Parts.{of-parts}
 use Rattle.civil.proofs.Answers.{no-seconds}
-use Rattle.registry.proofs.Instants.{of-parts}
 use Rattle.compose.specs.Stamps.{word, at, cp56Fields, cp56}
 use Rattle.compose.proofs.Parts.{wrong-length, right-length}
 use Rattle.compose.proofs.stamps.cp56time2a.Statement.{statement}

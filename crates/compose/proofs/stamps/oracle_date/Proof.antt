@@ -3,9 +3,9 @@ use borrow.Author.Needs.{needs}
 use mathlib.Core.Path.{sym, ap, _∙_}
 use mir.Syntax.{w64}
 use mir.Facts.{toZ-ofZ}
+use Rattle.instant.proofs.Parts.{of-parts}
 use Rattle.civil.specs.Answers.{readSeconds, secondsFor}
 use Rattle.civil.proofs.Answers.{no-seconds}
-use Rattle.registry.proofs.Instants.{of-parts}
 use Rattle.compose.specs.Stamps.{at, oracleFields, oracleDate}
 use Rattle.compose.proofs.Parts.{wrong-length, right-length}
 use Rattle.compose.proofs.stamps.oracle_date.Statement.{statement}

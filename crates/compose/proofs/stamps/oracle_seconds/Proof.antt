@@ -6,8 +6,8 @@ use lib.IntN.{pos, _+ℤ_, _-ℤ_, _*ℤ_}
 use mir.Syntax.{w64}
 use mir.Val.{SFits, toZ, ofZ}
 use mir.Facts.{toZ-ofZ, toZ-pos}
+use Rattle.signed.proofs.Sizes.{less-fits}
 use Rattle.civil.specs.Answers.{secondsFor}
-use Rattle.registry.proofs.Sizes.{less-fits}
 use Rattle.compose.proofs.Parts.{oracle-year}
 use native.Mathlib.Omega.{arith}
 use Rattle.compose.proofs.stamps.oracle_seconds.Statement.{statement}

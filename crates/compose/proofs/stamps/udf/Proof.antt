@@ -7,10 +7,10 @@ use mir.Syntax.{w64}
 use mir.Val.{SFits, toZ, ofZ}
 use mir.Facts.{toZ-ofZ, toZ-pos}
 use Rattle.refusal.specs.Answers.{Answer, gives}
-use Rattle.civil.specs.declared.instants.Instant.{Instant}
+use Rattle.instant.specs.declared.instants.Instant.{Instant}
+use Rattle.instant.proofs.Parts.{of-parts}
 use Rattle.civil.specs.Answers.{readSeconds, secondsFor}
 use Rattle.civil.proofs.Answers.{no-seconds, small-seconds}
-use Rattle.registry.proofs.Instants.{of-parts}
 use Rattle.compose.specs.Stamps.{word, at, moved, udfFields, udfMinutes, udfParts, udfStamp}
 use Rattle.compose.proofs.Parts.{wrong-length, right-length, zone-fits, carry-fits, moved-fits}
 use native.Mathlib.Omega.{arith}

@@ -6,8 +6,9 @@ use mir.Facts.{toZ-ofZ}
 use Rattle.refusal.specs.Answers.{gives}
 use Rattle.civil.specs.Answers.{readFields, readSeconds}
 use Rattle.civil.proofs.Answers.{no-seconds}
+use Rattle.fields.specs.Parts.{readBy}
 use Rattle.registry.specs.Words.{atSecond}
-use Rattle.registry.specs.Parts.{layoutOf, readBy}
+use Rattle.registry.specs.Parts.{layoutOf}
 use Rattle.registry.proofs.Instants.{out-of-range, of-fields}
 use Rattle.registry.proofs.from_fields.decode_local.Statement.{statement}
 use Rattle.registry.proofs.from_fields.decode_local.Tie as tie

@@ -6,9 +6,9 @@ use lib.IntN.{pos, _+ℤ_, _-ℤ_}
 use mir.Syntax.{w64}
 use mir.Val.{SFits, toZ, ofZ}
 use mir.Facts.{toZ-ofZ, toZ-pos}
+use Rattle.signed.proofs.Sizes.{sum-fits, less-fits}
+use Rattle.instant.proofs.Parts.{of-parts}
 use Rattle.registry.specs.Words.{zoneSize}
-use Rattle.registry.proofs.Sizes.{sum-fits, less-fits}
-use Rattle.registry.proofs.Instants.{of-parts}
 use Rattle.registry.proofs.Zones.{no-zone, east, west}
 use Rattle.registry.proofs.zone.less_zone.Statement.{statement}
 use Rattle.registry.proofs.zone.less_zone.Tie as tie

@@ -4,9 +4,9 @@ use mathlib.Core.Path.{_≡_, sym, ap, _∙_}
 use Prim.Native.Nat.{_%_}
 use native.Mathlib.Omega.{arith}
 use Rattle.refusal.specs.Answers.{gives}
-use Rattle.registry.specs.Layouts.{gsm}
+use Rattle.instant.specs.Answers.{readDecoded}
+use Rattle.fields.specs.Layouts.{gsm}
 use Rattle.registry.specs.Words.{fieldsDecode, thenZone, gsmDecode}
-use Rattle.registry.specs.Answers.{readDecoded}
 use Rattle.registry.proofs.Instants.{small}
 use Rattle.registry.proofs.zone.then_zone.Statement.{statement}
 use Rattle.registry.proofs.zone.then_zone.Tie as tie

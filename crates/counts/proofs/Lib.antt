@@ -1,0 +1,2 @@
+pub mod NokiaSeconds
+pub mod SqlDays

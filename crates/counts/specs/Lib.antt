@@ -1,0 +1,2 @@
+pub mod Nokia
+pub mod Sql

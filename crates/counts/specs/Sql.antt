@@ -1,0 +1,47 @@
+-- Layout 16: days from 1900-01-01 and ticks of 1/300 second. A word is its 64 bits.
+use mathlib.Core.Bool.{cond, _&&_}
+use Prim.Native.Nat.{ℕ, _+_, _*_, _/_, _%_, _^_}
+use lib.Dec.{eqb, ltb}
+use lib.IntN.{ℤ, pos, negℤ, _+ℤ_, _-ℤ_, _*ℤ_}
+use lib.Signed.{leZ, ltZ}
+use Rattle.refusal.specs.Answers.{Answer, gives, refused}
+use Rattle.signed.specs.Floor.{floorDiv, floorRem}
+use Rattle.signed.specs.Extend.{twos}
+use Rattle.instant.specs.Answers.{withNanos}
+use Rattle.instant.specs.declared.instants.Instant.{Instant}
+
+-- bits 32..63 are signed days from 1900-01-01, which is second -2,208,988,800, and bits 0..31 ticks of 1/300 s, cut
+-- down to a whole nanosecond; 5 for ticks of a day or more
+abbrev pub sqlDay : ℕ → ℤ
+sqlDay w = twos 32 (w / 2 ^ 32 % 2 ^ 32)
+
+abbrev pub sqlTicks : ℕ → ℕ
+sqlTicks w = w % 2 ^ 32
+
+abbrev pub tickNanos : ℕ → ℕ
+tickNanos k = k * 1000000000 / 300
+
+unfoldable pub sqlDecode : ℕ → Answer Instant
+sqlDecode w =
+    cond (ltb (sqlTicks w) 25920000)
+    (gives (record { seconds = sqlDay w *ℤ pos 86400 +ℤ pos (tickNanos (sqlTicks w) / 1000000000) -ℤ pos 2208988800; nanos = tickNanos (sqlTicks w) % 1000000000 }))
+    (refused 5)
+
+-- the nearest tick of r nanoseconds of a day, a half going up
+abbrev pub nearestTick : ℕ → ℕ
+nearestTick r = (3 * r + 5000000) / 10000000
+
+-- a day above its ticks; 8 where 32 signed bits do not hold the day
+abbrev pub dayWord : ℤ → ℕ → Answer ℤ
+dayWord d k = cond (leZ (negℤ (pos (2 ^ 31))) d && ltZ d (pos (2 ^ 31))) (gives (d *ℤ pos (2 ^ 32) +ℤ pos k)) (refused 8)
+
+-- a full day's ticks are tick 0 of the next day
+abbrev pub rolled : ℤ → ℕ → Answer ℤ
+rolled d k = cond (eqb k 25920000) (dayWord (d +ℤ pos 1) 0) (dayWord d k)
+
+-- of seconds from 1900-01-01 and nanoseconds
+unfoldable pub sqlWord : ℤ → ℕ → Answer ℤ
+sqlWord z n = rolled (floorDiv z 86400) (nearestTick (floorRem z 86400 * 1000000000 + n))
+
+unfoldable pub sqlEncode : Instant → Answer ℤ
+sqlEncode t = withNanos t (sqlWord (t .seconds +ℤ pos 2208988800) (t .nanos))

@@ -1,0 +1,25 @@
+-- The fourteen descriptions keep what reading asks.
+use native.Mathlib.Omega.{arith}
+use Rattle.fields.specs.Layouts.{gsm, layoutFor}
+use Rattle.fields.specs.Parts.{Sound}
+use Rattle.fields.specs.declared.layouts.Digits.the-variants.{SemiOctets}
+use Rattle.fields.specs.declared.kinds.Kind.{Kind}
+use Rattle.fields.specs.declared.kinds.Kind.the-variants.{FatDos, ExFat, Dttm, BitDate, BitDec, Bcd, Moto, Symantec, Dvr, Ns40, Ns40Le, LogTime, SemiOctet}
+
+pub sound : (k : Kind) → Sound (layoutFor k .digits) (layoutFor k)
+sound FatDos = omega arith
+sound ExFat = omega arith
+sound Dttm = omega arith
+sound BitDate = omega arith
+sound BitDec = omega arith
+sound Bcd = omega arith
+sound Moto = omega arith
+sound Symantec = omega arith
+sound Dvr = omega arith
+sound Ns40 = omega arith
+sound Ns40Le = omega arith
+sound LogTime = omega arith
+sound SemiOctet = omega arith
+
+pub gsm-sound : Sound SemiOctets gsm
+gsm-sound = omega arith

@@ -1,0 +1,3 @@
+pub mod Powers
+pub mod Values
+pub mod Fourteen

@@ -1,0 +1,22 @@
+-- How the answers about an instant are read: a value, or a number of the list of refusals.
+use mathlib.Core.Bool.{cond}
+use lib.Dec.{leb}
+use lib.IntN.{ℤ}
+use Rattle.refusal.specs.Answers.{Answer, gives, refused}
+use Rattle.instant.specs.declared.instants.Instant.{Instant}
+use Rattle.instant.specs.declared.answers.Decoded.{Decoded}
+use Rattle.instant.specs.declared.answers.Decoded.the-variants as decoded
+use Rattle.instant.specs.declared.answers.Encoded.{Encoded}
+use Rattle.instant.specs.declared.answers.Encoded.the-variants as encoded
+
+abbrev pub readDecoded : Decoded → Answer Instant
+readDecoded (decoded.At t) = gives t
+readDecoded (decoded.Refused why) = refused (why .number)
+
+abbrev pub readEncoded : Encoded → Answer ℤ
+readEncoded (encoded.Word w) = gives w
+readEncoded (encoded.Refused why) = refused (why .number)
+
+-- 9 for nanoseconds above 999,999,999, before anything else of the instant is looked at
+abbrev pub withNanos : Instant → Answer ℤ → Answer ℤ
+withNanos t answer = cond (leb (t .nanos) 999999999) answer (refused 9)

@@ -1,0 +1,2 @@
+pub mod Instants
+pub mod Answers

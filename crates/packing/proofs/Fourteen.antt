@@ -1,0 +1,24 @@
+-- The fourteen descriptions keep what writing asks.
+use native.Mathlib.Omega.{arith}
+use Rattle.fields.specs.Layouts.{gsm, layoutFor}
+use Rattle.fields.specs.declared.kinds.Kind.{Kind}
+use Rattle.fields.specs.declared.kinds.Kind.the-variants.{FatDos, ExFat, Dttm, BitDate, BitDec, Bcd, Moto, Symantec, Dvr, Ns40, Ns40Le, LogTime, SemiOctet}
+use Rattle.packing.specs.Parts.{Writable}
+
+pub writable : (k : Kind) → Writable (layoutFor k)
+writable FatDos = omega arith
+writable ExFat = omega arith
+writable Dttm = omega arith
+writable BitDate = omega arith
+writable BitDec = omega arith
+writable Bcd = omega arith
+writable Moto = omega arith
+writable Symantec = omega arith
+writable Dvr = omega arith
+writable Ns40 = omega arith
+writable Ns40Le = omega arith
+writable LogTime = omega arith
+writable SemiOctet = omega arith
+
+pub gsm-writable : Writable gsm
+gsm-writable = omega arith

@@ -1,0 +1,188 @@
+-- `write_kind` meets its contract: in each arm the description of the code is that of the table. Assumes nothing.
+use borrow.Author.Needs.{needs}
+use mathlib.Core.Path.{_≡_, refl, sym, ap, _∙_}
+use Prim.Native.Nat.{ℕ}
+use Rattle.refusal.specs.Answers.{Answer}
+use Rattle.civil.specs.declared.times.Civil.{Civil}
+use Rattle.places.specs.Orders.{reversed, yearSwapped}
+use Rattle.fields.specs.Layouts.{layoutFor, bitDate, ns40Le}
+use Rattle.fields.specs.declared.kinds.Kind.{Kind}
+use Rattle.fields.specs.declared.kinds.Kind.the-variants.{FatDos, ExFat, Dttm, BitDate, BitDec, Bcd, Moto, Symantec, Dvr, Ns40, Ns40Le, LogTime, SemiOctet}
+use Rattle.packing.specs.Parts.{reordered, writeBits, writeBy}
+use Rattle.packing.proofs.Fourteen.{writable}
+use Rattle.packing.proofs.Packing.{as-they-are, as-reversed, as-year-swapped}
+use Rattle.packing.proofs.words.write_kind.Statement.{statement}
+use Rattle.packing.proofs.words.write_kind.Tie as tie
+
+-- what is written by the layout of one kind is written by that of the kind that it is
+by-kind : (c : Civil) {k j : Kind} {x : Answer ℕ} → k ≡ j → x ≡ writeBy (layoutFor j) c → x ≡ writeBy (layoutFor k) c
+by-kind c e h = h ∙ ap (λ k. writeBy (layoutFor k) c) (sym e)
+
+enum-told : tie.Need-enum-told
+enum-told c = search needs
+
+write-bits-requires : tie.Need-write-bits-requires
+write-bits-requires c κs = ((writable FatDos, c .before .before .pre), refl)
+
+enum-told-2 : tie.Need-enum-told-2
+enum-told-2 c = search needs
+
+write-bits-requires-2 : tie.Need-write-bits-requires-2
+write-bits-requires-2 c κs = ((writable ExFat, c .before .before .pre), refl)
+
+enum-told-3 : tie.Need-enum-told-3
+enum-told-3 c = search needs
+
+write-bits-requires-3 : tie.Need-write-bits-requires-3
+write-bits-requires-3 c κs = ((writable Dttm, c .before .before .pre), refl)
+
+enum-told-4 : tie.Need-enum-told-4
+enum-told-4 c = search needs
+
+write-bits-requires-4 : tie.Need-write-bits-requires-4
+write-bits-requires-4 c κs = ((writable BitDate, c .before .before .pre), refl)
+
+reverse-packed-requires : tie.Need-reverse-packed-requires
+reverse-packed-requires c κs = search needs
+
+enum-told-5 : tie.Need-enum-told-5
+enum-told-5 c = search needs
+
+write-bits-requires-5 : tie.Need-write-bits-requires-5
+write-bits-requires-5 c κs = ((writable BitDec, c .before .before .pre), refl)
+
+enum-told-6 : tie.Need-enum-told-6
+enum-told-6 c = search needs
+
+write-pairs-requires : tie.Need-write-pairs-requires
+write-pairs-requires c κs = ((writable Bcd, c .before .before .pre), refl)
+
+enum-told-7 : tie.Need-enum-told-7
+enum-told-7 c = search needs
+
+write-bits-requires-6 : tie.Need-write-bits-requires-6
+write-bits-requires-6 c κs = ((writable Moto, c .before .before .pre), refl)
+
+enum-told-8 : tie.Need-enum-told-8
+enum-told-8 c = search needs
+
+write-bits-requires-7 : tie.Need-write-bits-requires-7
+write-bits-requires-7 c κs = ((writable Symantec, c .before .before .pre), refl)
+
+enum-told-9 : tie.Need-enum-told-9
+enum-told-9 c = search needs
+
+write-bits-requires-8 : tie.Need-write-bits-requires-8
+write-bits-requires-8 c κs = ((writable Dvr, c .before .before .pre), refl)
+
+enum-told-10 : tie.Need-enum-told-10
+enum-told-10 c = search needs
+
+write-bits-requires-9 : tie.Need-write-bits-requires-9
+write-bits-requires-9 c κs = ((writable Ns40, c .before .before .pre), refl)
+
+enum-told-11 : tie.Need-enum-told-11
+enum-told-11 c = search needs
+
+write-bits-requires-10 : tie.Need-write-bits-requires-10
+write-bits-requires-10 c κs = ((writable Ns40Le, c .before .before .pre), refl)
+
+swap-packed-year-requires : tie.Need-swap-packed-year-requires
+swap-packed-year-requires c κs = search needs
+
+enum-told-12 : tie.Need-enum-told-12
+enum-told-12 c = search needs
+
+write-bits-requires-11 : tie.Need-write-bits-requires-11
+write-bits-requires-11 c κs = ((writable LogTime, c .before .before .pre), refl)
+
+enum-told-13 : tie.Need-enum-told-13
+enum-told-13 c = search needs
+
+write-pairs-requires-2 : tie.Need-write-pairs-requires-2
+write-pairs-requires-2 c κs = ((writable SemiOctet, c .before .before .pre), refl)
+
+returns : tie.Need-returns
+returns c = by-kind (c .before .before .before .args .c) (c .before .enum-told .given .1) (c .write-bits .ensures ∙ sym (as-they-are _))
+
+returns-2 : tie.Need-returns-2
+returns-2 c = by-kind (c .before .before .before .args .c) (c .before .enum-told2 .given .1) (c .write-bits2 .ensures ∙ sym (as-they-are _))
+
+returns-3 : tie.Need-returns-3
+returns-3 c = by-kind (c .before .before .before .args .c) (c .before .enum-told3 .given .1) (c .write-bits3 .ensures ∙ sym (as-they-are _))
+
+returns-4 : tie.Need-returns-4
+returns-4 c = by-kind (c .before .before .before .before .args .c) (c .before .before .enum-told4 .given .1) (c .reverse-packed .ensures ∙ ap (reordered reversed) (c .before .write-bits4 .ensures) ∙ sym (as-reversed (writeBits bitDate (c .before .before .before .before .args .c))))
+
+returns-5 : tie.Need-returns-5
+returns-5 c = by-kind (c .before .before .before .args .c) (c .before .enum-told5 .given .1) (c .write-bits5 .ensures ∙ sym (as-they-are _))
+
+returns-6 : tie.Need-returns-6
+returns-6 c = by-kind (c .before .before .before .args .c) (c .before .enum-told6 .given .1) (c .write-pairs .ensures ∙ sym (as-they-are _))
+
+returns-7 : tie.Need-returns-7
+returns-7 c = by-kind (c .before .before .before .args .c) (c .before .enum-told7 .given .1) (c .write-bits6 .ensures ∙ sym (as-they-are _))
+
+returns-8 : tie.Need-returns-8
+returns-8 c = by-kind (c .before .before .before .args .c) (c .before .enum-told8 .given .1) (c .write-bits7 .ensures ∙ sym (as-they-are _))
+
+returns-9 : tie.Need-returns-9
+returns-9 c = by-kind (c .before .before .before .args .c) (c .before .enum-told9 .given .1) (c .write-bits8 .ensures ∙ sym (as-they-are _))
+
+returns-10 : tie.Need-returns-10
+returns-10 c = by-kind (c .before .before .before .args .c) (c .before .enum-told10 .given .1) (c .write-bits9 .ensures ∙ sym (as-they-are _))
+
+returns-11 : tie.Need-returns-11
+returns-11 c = by-kind (c .before .before .before .before .args .c) (c .before .before .enum-told11 .given .1) (c .swap-packed-year .ensures ∙ ap (reordered yearSwapped) (c .before .write-bits10 .ensures) ∙ sym (as-year-swapped (writeBits ns40Le (c .before .before .before .before .args .c))))
+
+returns-12 : tie.Need-returns-12
+returns-12 c = by-kind (c .before .before .before .args .c) (c .before .enum-told12 .given .1) (c .write-bits11 .ensures ∙ sym (as-they-are _))
+
+returns-13 : tie.Need-returns-13
+returns-13 c = by-kind (c .before .before .before .args .c) (c .before .enum-told13 .given .1) (c .write-pairs2 .ensures ∙ sym (as-they-are _))
+
+pub write-kind-spec : {M : Type 1} → statement M
+write-kind-spec =
+    tie.close
+    (tie.spec
+    enum-told
+    write-bits-requires
+    enum-told-2
+    write-bits-requires-2
+    enum-told-3
+    write-bits-requires-3
+    enum-told-4
+    write-bits-requires-4
+    reverse-packed-requires
+    enum-told-5
+    write-bits-requires-5
+    enum-told-6
+    write-pairs-requires
+    enum-told-7
+    write-bits-requires-6
+    enum-told-8
+    write-bits-requires-7
+    enum-told-9
+    write-bits-requires-8
+    enum-told-10
+    write-bits-requires-9
+    enum-told-11
+    write-bits-requires-10
+    swap-packed-year-requires
+    enum-told-12
+    write-bits-requires-11
+    enum-told-13
+    write-pairs-requires-2
+    returns
+    returns-2
+    returns-3
+    returns-4
+    returns-5
+    returns-6
+    returns-7
+    returns-8
+    returns-9
+    returns-10
+    returns-11
+    returns-12
+    returns-13)

@@ -1,0 +1,8 @@
+-- Pairs of decimal digits, counted from 0 at the low end.
+use mathlib.Core.Bool.{cond}
+use Prim.Native.Nat.{ℕ, _^_}
+use lib.Dec.{ltb}
+
+-- what the k-th of the six pairs counts
+abbrev pub pairCount : ℕ → ℕ
+pairCount k = cond (ltb k 6) (100 ^ k) 0

@@ -1,0 +1,30 @@
+-- `lines::stream::last_line` meets its contract, by whether anything is held. Assumes nothing.
+use borrow.Author.Needs.{needs}
+use borrow.Author.Tests.{eq-eqb, ne-eqb}
+use Rattle.stream.specs.Stream.{lastText}
+use Rattle.lines.proofs.Texts.{nothing-placed}
+use Rattle.stream.proofs.last_line.Statement.{statement}
+use Rattle.stream.proofs.last_line.Tie as tie
+
+returns : tie.Need-returns
+unfolding lastText
+returns c = simp (eq-eqb _ _ (c .if1 .taken)) (nothing-placed (c .before .before .args .out .now))
+
+first-requires : tie.Need-first-requires
+first-requires c κs = search needs
+
+answer-line-requires : tie.Need-answer-line-requires
+answer-line-requires c κs = search needs
+
+same-length : tie.Need-same-length
+same-length c = search needs
+
+returns-2 : tie.Need-returns-2
+unfolding lastText
+returns-2 c =
+    let line = c .before .before .before .before in
+    rw (ne-eqb _ _ (line .before .before .if1 .left)) (rw (line .first .ensures) at (c .before .before .answer-line .ensures))
+
+pub last-line-spec : {M : Type 1} → statement M
+last-line-spec =
+    tie.close (tie.spec returns first-requires answer-line-requires same-length returns-2)

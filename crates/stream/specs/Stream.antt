@@ -1,0 +1,55 @@
+-- A stream of lines, byte for byte as it comes. An LF is the byte 10.
+use Prim.Native.Nat.{ℕ, suc, _-_}
+use mathlib.Core.Path.{_≡_}
+use mathlib.Core.Bool.{cond}
+use mathlib.Core.List.{List, [], _∷_, _++_}
+use lib.Dec.{eqb, leb}
+use lib.ListN.{length, take, drop}
+use Rattle.blocks.specs.Blocks.{Kept, kept}
+use Rattle.lines.specs.Answers.{lineText}
+use Rattle.stream.specs.declared.Fed.{Fed}
+
+-- the first n of some bytes are held
+abbrev pub holds : List ℕ → ℕ → Kept
+holds bytes n = record { bytes = bytes; count = n }
+
+-- what is held is the line that is not finished
+abbrev pub lineIn : Kept → List ℕ
+lineIn h = take (h .count) (h .bytes)
+
+-- what some input leaves: the text that it has written, and what is held then
+pub record After : Type 0 where
+  pub text : List ℕ
+  pub held : Kept
+
+-- one byte: an LF has the line answered, and any other byte is held where there is room
+unfoldable pub step : Kept → ℕ → After
+step h b =
+    cond (eqb b 10) (record { text = lineText (lineIn h); held = holds (h .bytes) 0 })
+    (record { text = []; held = kept (h .bytes) (h .count) b })
+
+-- text, and then what follows it
+abbrev pub then : List ℕ → After → After
+then text a = record { text = text ++ a .text; held = a .held }
+
+-- the bytes of a block, one after the other
+unfoldable pub steps : Kept → List ℕ → After
+steps h [] = record { text = []; held = h }
+steps h (b ∷ bs) = then (step h b .text) (steps (step h b .held) bs)
+
+-- how many bytes of a block are taken at once: each before which room is left for any answer, 48 bytes
+unfoldable pub taken : Kept → List ℕ → ℕ → ℕ
+taken h [] room = 0
+taken h (b ∷ bs) room = cond (leb 48 room) (suc (taken (step h b .held) bs (room - length (step h b .text)))) 0
+
+-- what a call leaves that was fed a block, with h held before: the bytes that it took have gone through the stream, their
+-- text stands at the start of out, and the other bytes of out are as they were
+pub record Feeds (h : Kept) (block out : List ℕ) (r : Fed) (bytes new : List ℕ) : Type 0 where
+  pub took : r .taken ≡ taken h block (length out)
+  pub keeps : holds bytes (r .held) ≡ steps h (take (r .taken) block) .held
+  pub wrote : r .wrote ≡ length (steps h (take (r .taken) block) .text)
+  pub text : new ≡ steps h (take (r .taken) block) .text ++ drop (r .wrote) out
+
+-- the answer to what is held when the input has ended, a last line that lacks its LF: where nothing is, there is no line
+unfoldable pub lastText : Kept → List ℕ
+lastText h = cond (eqb (h .count) 0) [] (lineText (lineIn h))
