@@ -1,11 +1,13 @@
 -- What the answer about a date, and about a day number, makes of the answer about a civil time.
 use mathlib.Core.Path.{_≡_, sym}
 use mathlib.Core.Bool.{true}
-use Prim.Native.Nat.{ℕ, _/_, _<_, _^_}
+use Prim.Native.Nat.{ℕ, _/_}
 use native.Mathlib.Omega.{arith}
 use lib.Dec.{leb→le, le→leb}
 use lib.IntN.{ℤ, pos, negsuc}
-use lib.Signed.{mag, leZ, _≤ℤ_}
+use lib.Signed.{leZ, _≤ℤ_}
+use mir.Syntax.{w32}
+use mir.Val.{SFits}
 use Rattle.refusal.specs.Answers.{gives, refused}
 use Rattle.refusal.proofs.Answers.{clash, failed, held}
 use Rattle.signed.specs.Floor.{floorDiv, floorRem}
@@ -32,12 +34,12 @@ some-day c {z} e =
     let h = held (goodDate (c .year) (c .month) (c .day)) z (dayNumber (c .year) (c .month) (c .day)) 3 e in
     rw (h .0, h .1)
 
--- a day number of the calendar is small
-small : (z : ℤ) → negsuc 4371586 ≤ℤ z → z ≤ℤ pos 2932896 → mag z < 2 ^ 32
-small (pos n) l h = omega (arith, leb→le n 2932896 (h .le))
-small (negsuc n) l h = omega (arith, leb→le n 4371586 (l .le))
+-- a day number of the calendar fits 32 bits
+small : (z : ℤ) → negsuc 4371586 ≤ℤ z → z ≤ℤ pos 2932896 → SFits w32 z
+small (pos n) l h = record { sfits = omega (arith, leb→le n 2932896 (h .le)) }
+small (negsuc n) l h = record { sfits = omega (arith, leb→le n 4371586 (l .le)) }
 
-pub day-small : (y : ℤ) (m d : ℕ) {z : ℤ} → gives z ≡ dayFor y m d → mag z < 2 ^ 32
+pub day-small : (y : ℤ) (m d : ℕ) {z : ℤ} → gives z ≡ dayFor y m d → SFits w32 z
 day-small y m d {z} e =
     let h = held (goodDate y m d) z (dayNumber y m d) 3 e in
     let g = date-of-its-day y m d (h .0) .0 in

@@ -15,7 +15,7 @@ module _ (z : ℤ) (w : inWindow z ≡ true) where
   abbrev pub above : ℕ
   above = raised 377736739200 z
 
-  pub above-is : z +ℤ pos 377736739200 ≡ pos above
+  above-is : z +ℤ pos 377736739200 ≡ pos above
   above-is = raise 377736739200 z (window-low z w) (omega arith)
 
   pub above-small : above < 2 ^ 40

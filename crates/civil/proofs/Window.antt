@@ -21,11 +21,11 @@ neg-fits : (x : ℕ) → x ≤ 2 ^ 63 → SFits w64 (negℤ (pos x))
 neg-fits zero h = record { sfits = omega arith }
 neg-fits (suc x) h = record { sfits = omega arith }
 
-pub days-fit : (z : ℤ) → mag z < 2 ^ 32 → SFits w64 (z *ℤ pos 86400)
+pub days-fit : (z : ℤ) → mag z < 2 ^ 31 → SFits w64 (z *ℤ pos 86400)
 days-fit (pos a) h = record { sfits = omega arith }
 days-fit (negsuc a) h = neg-fits (suc a * 86400) (omega arith)
 
-pub seconds-fit : (z : ℤ) (t : ℕ) → mag z < 2 ^ 32 → t < 86400 → SFits w64 (z *ℤ pos 86400 +ℤ pos t)
+pub seconds-fit : (z : ℤ) (t : ℕ) → mag z < 2 ^ 31 → t < 86400 → SFits w64 (z *ℤ pos 86400 +ℤ pos t)
 seconds-fit (pos a) t h l = record { sfits = omega arith }
 seconds-fit (negsuc a) t h l = rw (neg-plus (suc a * 86400) t) (fits w64 t (suc a * 86400) (omega arith) (omega arith))
 

@@ -1,4 +1,4 @@
--- What the functions inside promise each other.
+-- A civil time in two parts, a day and a time of day.
 use mathlib.Core.Bool.{cond, _&&_}
 use Prim.Native.Nat.{ℕ, _/_, _%_}
 use lib.IntN.{ℤ}

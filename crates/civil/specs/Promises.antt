@@ -29,8 +29,8 @@ OneTime = (a b : Civil) → good a ≡ true → good b ≡ true → secondsOf a 
 
 -- ---- one answer
 
--- any two answers that a contract allows are equal: so the two engines agree on every set of fields and on every number
--- of seconds, refusals too
+-- any two answers that a contract allows are equal: so the second engine, `walk`, agrees with this one on every set of
+-- fields and on every number of seconds, refusals too
 abbrev pub OneAnswer : Type 0
 OneAnswer =
     ((c : Civil) (a b : Seconds) → readSeconds a ≡ secondsFor c → readSeconds b ≡ secondsFor c → a ≡ b)

@@ -3,7 +3,6 @@ ghost use mathlib.Core.Path.{_≡_};
 ghost use Prim.Native.Nat.{_<_, _^_};
 ghost use mathlib.Core.Bool.{true};
 ghost use lib.IntN.{natAbs, pos, _+ℤ_};
-ghost use lib.Signed.{mag};
 ghost use Rattle.signed.specs.Floor.{floorDiv, floorRem};
 ghost use Rattle.civil.specs.Times.{inWindow};
 ghost use Rattle.civil.specs.Answers.{readSeconds, readFields, secondsFor, fieldsFor};
@@ -39,8 +38,7 @@ pub enum Fields {
 }
 
 // The seconds of a time of day on the day of a number.
-pub fn seconds_on(number: i64, hour: u64, minute: u64, second: u64) -> Seconds
-    requires { ⌜ mag number < 2 ^ 32 ⌝ }
+pub fn seconds_on(number: i32, hour: u64, minute: u64, second: u64) -> Seconds
     ensures { λ r. ⌜ readSeconds r ≡ secondsOn number hour minute second ⌝ }
 {
     if 23 < hour {
@@ -59,7 +57,7 @@ pub fn seconds_on(number: i64, hour: u64, minute: u64, second: u64) -> Seconds
         });
     }
     let passed = hour * 3600 + minute * 60 + second;
-    let total = number * 86400 + passed as i64;
+    let total = number as i64 * 86400 + passed as i64;
     if total < Instant::FIRST {
         return Seconds::Refused(Refusal {
             number: Refusal::FIELDS,
@@ -97,7 +95,7 @@ pub fn seconds_at(year: i64, month: u64, day: u64, hour: u64, minute: u64, secon
             number: Refusal::FIELDS,
         });
     };
-    seconds_on(number, hour, minute, second)
+    seconds_on(number as i32, hour, minute, second)
 }
 
 // The seconds of a civil time.

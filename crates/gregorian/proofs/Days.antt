@@ -1,19 +1,21 @@
 -- Dates and day numbers as days counted from 1 January -10000.
-use mathlib.Core.Path.{_≡_, sym, ap, _∙_}
-use mathlib.Core.Bool.{Bool, true, false}
+use mathlib.Core.Path.{_≡_, ap, _∙_}
+use mathlib.Core.Bool.{Bool, true}
 use Prim.Native.Nat.{ℕ, _+_, _-_, _<_}
 use native.Mathlib.Omega.{arith}
 use lib.ListN.{getD}
 use lib.IntN.{ℤ, pos, negsuc, negℤ, natAbs, subℕ, _+ℤ_}
-use lib.Signed.{_≤ℤ_, leZ, ltZ}
+use lib.Signed.{_≤ℤ_, leZ}
+use mir.Syntax.{w64}
+use mir.Val.{SFits}
 use Rattle.signed.proofs.Differences.{minus, lower, raised, raised-high, raised-back}
-use Rattle.signed.proofs.Tests.{leZ-le, ge-leZ, lt-leZ, and-left, and-right, and-false}
-use Rattle.refusal.specs.Answers.{gives, refused}
+use Rattle.signed.proofs.Machine.{Raises, raises}
+use Rattle.signed.proofs.Tests.{leZ-le, and-left, and-right}
 use Rattle.gregorian.specs.Gregorian.{leap, months, daysOfMonths, yearDays, yearAt, yearsTo, daysOfYears, daysTo, dayNumber}
 use Rattle.gregorian.specs.Dates.{goodYear, goodDayNumber, yearsIn, monthsIn, dateInYear, dateIn, dateAt}
-use Rattle.gregorian.specs.Answers.{dayFor, dateFor}
+use Rattle.gregorian.specs.Answers.{dayFor}
 use Rattle.gregorian.specs.Parts.{InMonth, InYear, dayInYear}
-use Rattle.gregorian.proofs.YearSums.{closed-is, no-years, years-suc}
+use Rattle.gregorian.proofs.YearSums.{closed-is, no-years, years-suc, all-years}
 use Rattle.gregorian.proofs.MonthSums.{no-months, months-suc}
 use Rattle.gregorian.proofs.Wholes.{whole}
 
@@ -32,8 +34,15 @@ year-back y g = minus (yearsTo y) 10000 ∙ lower 10000 y (year-low y g) (omega 
 pub years-back : (n : ℕ) → yearsTo (yearAt n) ≡ n
 years-back n = ap (raised 10000) (minus n 10000) ∙ raised-back 10000 n
 
+pub leap-back : (y : ℤ) {n : ℕ} → goodYear y ≡ true → n ≡ yearsTo y → leap (yearAt n) ≡ leap y
+leap-back y g e = ap leap (ap yearAt e ∙ year-back y g)
+
 pub years-most : (y : ℤ) → goodYear y ≡ true → yearsTo y < 20000
 years-most y g = omega (arith, raised-high 10000 y (year-low y g) (omega arith) (year-high y g))
+
+-- the count as the machine makes it
+pub raises-year : {y : ℤ} → SFits w64 y → goodYear y ≡ true → Raises 10000 y
+raises-year {y} f g = raises 10000 f (year-low y g) (omega arith) (omega (arith, years-most y g))
 
 -- ---- day numbers
 
@@ -63,28 +72,15 @@ day-low z g = leZ-le (negsuc 4371586) z (rw first-day at (and-left (leZ (dayNumb
 pub day-high : (z : ℤ) → goodDayNumber z ≡ true → z ≤ℤ pos 2932896
 day-high z g = leZ-le z (pos 2932896) (rw last-day at (and-right (leZ (dayNumber (negℤ (pos 9999)) 1 1) z) (leZ z (dayNumber (pos 9999) 12 31)) g))
 
--- ---- the tests of a year and of a day number, as the code makes them
+pub days-most : (z : ℤ) → goodDayNumber z ≡ true → raised 4371953 z < daysOfYears 20000
+days-most z g = omega (arith, all-years, raised-high 4371953 z (day-low z g) (omega arith) (day-high z g))
 
-pub year-early : (y : ℤ) (m d : ℕ) → ltZ y (negsuc 9998) ≡ true → dayFor y m d ≡ refused 3
-year-early y m d h = rw (lt-leZ y (negsuc 9998) h)
-
-pub year-late : (y : ℤ) (m d : ℕ) → ltZ (pos 9999) y ≡ true → dayFor y m d ≡ refused 3
-year-late y m d h = rw (lt-leZ (pos 9999) y h, and-false (leZ (negsuc 9998) y))
-
-pub year-good : (y : ℤ) → ltZ y (negsuc 9998) ≡ false → ltZ (pos 9999) y ≡ false → goodYear y ≡ true
-year-good y l h = rw (ge-leZ y (negsuc 9998) l) (ge-leZ (pos 9999) y h)
+-- the same of days
+pub raises-day : {z : ℤ} → SFits w64 z → goodDayNumber z ≡ true → Raises 4371953 z
+raises-day {z} f g = raises 4371953 f (day-low z g) (omega arith) (omega (arith, all-years, days-most z g))
 
 pub day-for : (y : ℤ) (n m d : ℕ) → goodYear y ≡ true → n ≡ yearsTo y → dayInYear (yearAt n) m d ≡ dayFor y m d
 day-for y n m d g e = rw g (ap (λ z. dayInYear z m d) (ap yearAt e ∙ year-back y g))
-
-pub day-early : (z : ℤ) → ltZ z (negsuc 4371586) ≡ true → dateFor z ≡ refused 6
-day-early z h = rw (first-day, lt-leZ z (negsuc 4371586) h)
-
-pub day-late : (z : ℤ) → ltZ (pos 2932896) z ≡ true → dateFor z ≡ refused 6
-day-late z h = rw (last-day, lt-leZ (pos 2932896) z h, and-false (leZ (dayNumber (negℤ (pos 9999)) 1 1) z))
-
-pub day-good : (z : ℤ) → ltZ z (negsuc 4371586) ≡ false → ltZ (pos 2932896) z ≡ false → goodDayNumber z ≡ true
-day-good z l h = rw (first-day, last-day, ge-leZ z (negsuc 4371586) l) (ge-leZ (pos 2932896) z h)
 
 -- ---- the date of a day
 
@@ -114,6 +110,6 @@ date-in {t} {n} {left} h =
     let d : t - daysOfYears (yearsIn t) ≡ left = omega (arith, ap daysOfYears e, h .is) in
     λ i. dateInYear (e i) (d i)
 
-pub date-for : (z : ℤ) {n left : ℕ} → goodDayNumber z ≡ true → InYear (natAbs (z +ℤ pos 4371953)) n left → gives (dateInYear n left) ≡ dateFor z
+pub date-at : (z : ℤ) {n left : ℕ} → InYear (natAbs (z +ℤ pos 4371953)) n left → dateAt z ≡ dateInYear n left
 unfolding dateAt
-date-for z g h = rw (g, epoch) (ap gives (sym (date-in h)))
+date-at z h = rw epoch (date-in h)

@@ -7,10 +7,11 @@ use native.Mathlib.Omega.{arith}
 use native.Mathlib.Numerals.{add-one}
 use native.Mathlib.Decide.{decLt}
 use lib.Dec.{T, leb, eqb, leb→le, eqb→eq}
-use lib.ListN.{getD}
+use lib.ListN.{getD, List·getD-eq-default}
 use borrow.Author.Tests.{lt-ltb, le-ltb}
 use Rattle.gregorian.specs.Gregorian.{months, daysOfMonths}
 use Rattle.gregorian.specs.Parts.{lackingOf, InMonth}
+use Rattle.gregorian.proofs.Wholes.{fewer}
 
 -- a test of the numbers below n
 abbrev each : (ℕ → Bool) → ℕ → Bool
@@ -41,6 +42,11 @@ short false = tt
 pub month-most : (b : Bool) (k : ℕ) → k < 12 → getD (months b) k 0 ≤ 31
 month-most b k h = leb→le (getD (months b) k 0) 31 (at (λ j. leb (getD (months b) j 0) 31) 12 (short b) k h)
 
+-- a month that no year has has no days
+pub no-month : (b : Bool) (k : ℕ) → 12 ≤ k → getD (months b) k 0 ≡ 0
+no-month true k h = List·getD-eq-default (months true) 0 h
+no-month false k h = List·getD-eq-default (months false) 0 h
+
 -- one month more
 pub months-step : (b : Bool) (k : ℕ) → daysOfMonths b (k + 1) ≡ daysOfMonths b k + getD (months b) k 0
 unfolding daysOfMonths
@@ -53,6 +59,10 @@ months-suc b k = refl
 pub no-months : (b : Bool) → daysOfMonths b 0 ≡ 0
 unfolding daysOfMonths
 no-months b = refl
+
+-- the months passed before a day of a year are fewer than all
+pub fewer-months : (b : Bool) (k day : ℕ) → daysOfMonths b k ≤ day → day < daysOfMonths b 12 → k < 12
+fewer-months b k day l h = fewer (λ j. getD (months b) j 0) (daysOfMonths b) (months-suc b) k 12 day l h
 
 -- the days before a month, in closed form
 abbrev closed : Bool → ℕ → ℕ

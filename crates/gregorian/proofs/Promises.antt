@@ -4,14 +4,14 @@ use mathlib.Core.Bool.{Bool, true, false}
 use Prim.Native.Nat.{ℕ, _+_, _-_}
 use native.Mathlib.Omega.{arith}
 use lib.IntN.{ℤ, pos, subℕ, _+ℤ_}
-use Rattle.signed.proofs.Differences.{minus, plus, lower, raised, raised-low, raised-high, raised-back, low, high}
+use Rattle.signed.proofs.Differences.{minus, plus, lower, raised, raised-low, raised-back, low, high}
 use Rattle.signed.proofs.Tests.{le-leZ}
 use Rattle.gregorian.specs.Gregorian.{leap, monthLength, daysOfMonths, yearDays, yearAt, yearsTo, daysTo, dayNumber}
 use Rattle.gregorian.specs.Dates.{dateIn, dateAt}
 use Rattle.gregorian.specs.Promises.{DayZero, NextDay, NextMonth, NextYear, YearLengths, DayOfItsDate, DateOfItsDay}
 use Rattle.gregorian.proofs.YearSums.{closed-is, years-step, all-years, row-days}
 use Rattle.gregorian.proofs.MonthSums.{no-months, months-step}
-use Rattle.gregorian.proofs.Days.{year-back, epoch, number, days-in-year, first-day, last-day, day-low, day-high}
+use Rattle.gregorian.proofs.Days.{year-back, epoch, number, days-in-year, first-day, last-day, day-low, days-most}
 use Rattle.gregorian.proofs.Trip.{day-trip, date-trip, its-days-low, its-days-high}
 
 pub day-zero : DayZero
@@ -63,7 +63,7 @@ unfolding dateAt
 day-of-its-date z g =
     let l = day-low z g in
     let t = raised 4371953 z in
-    let trip = day-trip t (omega (arith, closed-is 1, raised-low 4371953 z l (omega arith))) (omega (arith, all-years, raised-high 4371953 z l (omega arith) (day-high z g))) in
+    let trip = day-trip t (omega (arith, closed-is 1, raised-low 4371953 z l (omega arith))) (days-most z g) in
     let d = dateIn t in
     rw epoch
     (trip .good, number (d .year) (d .month) (d .day) ∙ ap (λ n. subℕ n 4371953) (trip .back) ∙ lower 4371953 z l (omega arith))

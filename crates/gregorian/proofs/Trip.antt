@@ -7,7 +7,7 @@ use native.Mathlib.Decide.{decLt}
 use lib.Dec.{leb}
 use lib.ListN.{getD}
 use lib.IntN.{ℤ}
-use borrow.Author.Tests.{le-leb, leb-true}
+use borrow.Author.Tests.{leb-true}
 use Rattle.signed.proofs.Differences.{minus, raised-low, low, high}
 use Rattle.signed.proofs.Tests.{le-leZ, and-left, and-right}
 use Rattle.gregorian.specs.Gregorian.{leap, months, monthLength, daysOfMonths, yearDays, yearAt, yearsTo, daysOfYears, daysTo}
@@ -17,6 +17,7 @@ use Rattle.gregorian.specs.declared.dates.Date.{Date}
 use Rattle.gregorian.proofs.Wholes.{rises}
 use Rattle.gregorian.proofs.YearSums as years
 use Rattle.gregorian.proofs.MonthSums as sums
+use Rattle.gregorian.proofs.Tests.{month-day-good}
 use Rattle.gregorian.proofs.Days.{year-low, year-back, years-most, days-in-year, date-in, date-in-year}
 
 -- ---- every day has its year, and every day of a year its month
@@ -54,9 +55,7 @@ good-year n l h =
 good-month-day : (y : ℤ) {t k left : ℕ} → InMonth (leap y) t k left → goodMonthDay y (k + 1) (left + 1) ≡ true
 good-month-day y {t} {k} {left} h =
     let e : k + 1 - 1 ≡ k = omega arith in
-    rw
-    (le-leb 1 (k + 1) (omega arith), le-leb (k + 1) 12 (omega (arith, h .month)), le-leb 1 (left + 1) (omega arith))
-    (le-leb (left + 1) (monthLength y (k + 1)) (omega (arith, h .short, ap (λ j. getD (months (leap y)) j 0) e)))
+    month-day-good y (k + 1) (left + 1) (omega arith) (omega (arith, h .month)) (omega arith) (omega (arith, h .short, ap (λ j. getD (months (leap y)) j 0) e))
 
 -- the days to the date that lies in a year and a month
 days-back : {t n left k rest : ℕ} → InYear t n left → InMonth (leap (yearAt n)) left k rest → daysTo (yearAt n) (k + 1) (rest + 1) ≡ t

@@ -18,6 +18,14 @@ module _ (f s : ℕ → ℕ) (step : (n : ℕ) → s (suc n) ≡ s n + f n) wher
   pub rises : (n m : ℕ) → n ≤ m → s n ≤ s m
   rises n m h = let e : n + (m - n) ≡ m = omega arith in omega (arith, ap s e, grows n (m - n))
 
+  -- what starts by a day that another starts after comes before it
+  pub fewer : (n m t : ℕ) → s n ≤ t → t < s m → n < m
+  fewer n m t l h = go (decLt n m)
+    where
+      go : Dec (n < m) → n < m
+      go (yes p) = p
+      go (no p) = absurd (omega (arith, rises m n (omega arith)))
+
   pub whole : (k i j t : ℕ) → i ≤ j → j < i + k → s j ≤ s i + t → s i + t < s (suc j) → wholes f k i t ≡ j
   unfolding wholes
   whole zero i j t a b l u = absurd (omega arith)

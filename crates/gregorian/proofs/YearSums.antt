@@ -10,7 +10,7 @@ use borrow.Author.Tests.{eqb-true, eqb-false}
 use Rattle.gregorian.specs.Gregorian.{leap, daysOfMonths, yearDays, yearAt, daysOfYears}
 use Rattle.gregorian.specs.Parts.{InYear}
 use Rattle.gregorian.proofs.Leap.{leapN, leap-at}
-use Rattle.gregorian.proofs.Wholes.{rises}
+use Rattle.gregorian.proofs.Wholes.{fewer}
 
 -- one year more
 pub years-step : (n : ℕ) → daysOfYears (n + 1) ≡ daysOfYears n + yearDays (yearAt n)
@@ -88,11 +88,7 @@ all-years = closed-is 20000
 
 -- the years passed before a day are fewer than all
 pub fewer-years : (n day : ℕ) → daysOfYears n ≤ day → day < daysOfYears 20000 → n < 20000
-fewer-years n day l h = go (decLt n 20000)
-  where
-    go : Dec (n < 20000) → n < 20000
-    go (yes p) = p
-    go (no p) = absurd (omega (arith, rises (λ k. yearDays (yearAt k)) daysOfYears years-suc 20000 n (omega arith)))
+fewer-years n day l h = fewer (λ k. yearDays (yearAt k)) daysOfYears years-suc n 20000 day l h
 
 -- a day between the starts of two neighbouring years lies in the first
 pub in-year : (day n : ℕ) → n < 20000 → daysOfYears n ≤ day → day < daysOfYears (n + 1) → InYear day n (day - daysOfYears n)

@@ -1,4 +1,4 @@
--- What the functions inside promise each other.
+-- What the functions inside promise each other, here and in the second engine.
 use mathlib.Core.Path.{_≡_}
 use mathlib.Core.Bool.{Bool, cond}
 use Prim.Native.Nat.{ℕ, _+_, _<_}

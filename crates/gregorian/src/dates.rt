@@ -1,7 +1,7 @@
 // Dates and day numbers.
 ghost use mathlib.Core.Path.{_≡_};
 ghost use mathlib.Core.Bool.{true};
-ghost use Prim.Native.Nat.{_≤_, _<_};
+ghost use Prim.Native.Nat.{_<_};
 ghost use lib.IntN.{natAbs, pos, subℕ, _+ℤ_};
 ghost use Rattle.gregorian.specs.Gregorian.{yearAt, yearsTo, yearDays, daysOfYears};
 ghost use Rattle.gregorian.specs.Dates.{goodYear, goodDayNumber, dateInYear};
@@ -35,7 +35,7 @@ pub enum Dated {
 }
 
 // How many years a year is after -10000.
-pub fn years_to(year: i64) -> u64
+fn years_to(year: i64) -> u64
     requires { ⌜ goodYear year ≡ true ⌝ }
     ensures { λ r. ⌜ (r ≡ yearsTo year) × (r < 20000) ⌝ }
 {
@@ -51,7 +51,7 @@ fn year_at(years: u64) -> i64
 }
 
 // How many days a day number is after 1 January -10000.
-pub fn days_to(number: i64) -> u64
+fn days_to(number: i64) -> u64
     requires { ⌜ goodDayNumber number ≡ true ⌝ }
     ensures { λ r. ⌜ (r ≡ natAbs (number +ℤ pos 4371953)) × (r < daysOfYears 20000) ⌝ }
 {
@@ -67,7 +67,7 @@ fn number_at(days: u64) -> i64
 }
 
 // The day number of a month and a day in a year that starts so many days after 1 January -10000.
-pub fn day_in_year(years: u64, start: u64, month: u64, day: u64) -> Day
+fn day_in_year(years: u64, start: u64, month: u64, day: u64) -> Day
     requires { ⌜ (years < 20000) × (start ≡ daysOfYears years) ⌝ }
     ensures { λ r. ⌜ readDay r ≡ dayInYear (yearAt years) month day ⌝ }
 {
@@ -96,7 +96,7 @@ pub fn day_in_year(years: u64, start: u64, month: u64, day: u64) -> Day
 }
 
 // The date of a year and the days that have passed in it.
-pub fn date_in_year(years: u64, left: u64) -> Date
+fn date_in_year(years: u64, left: u64) -> Date
     requires { ⌜ (years < 20000) × (left < yearDays (yearAt years)) ⌝ }
     ensures { λ r. ⌜ r ≡ dateInYear years left ⌝ }
 {

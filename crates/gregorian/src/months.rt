@@ -19,6 +19,17 @@ pub fn month_days(leap: bool, month: u64) -> u64
     MONTHS[leap as usize][month as usize] as u64
 }
 
+// The same, of a month that no year has too: that one has no days.
+pub fn length_of_month(leap: bool, month: u64) -> u64
+    ensures { λ r. ⌜ r ≡ getD (months leap) month 0 ⌝ }
+{
+    if month < 12 {
+        month_days(leap, month)
+    } else {
+        0
+    }
+}
+
 // What February lacks of 30 days, of a month after it.
 fn lacking(leap: bool, month: u64) -> u64
     ensures { λ r. ⌜ r ≡ lackingOf leap month ⌝ }

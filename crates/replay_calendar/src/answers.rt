@@ -5,9 +5,7 @@ use civil::Civil;
 use civil::Fields;
 use civil::Seconds;
 use civil::fields_of;
-use civil::fields_of_by_walk;
 use civil::seconds_of;
-use civil::seconds_of_by_walk;
 use decimal::text_of;
 use libc::STDOUT_FILENO;
 use refusal::Refusal;
@@ -117,15 +115,15 @@ fn say_fields_refused(why: Refusal, other: Fields) {
 pub fn say_seconds(time: Civil) {
     let one = seconds_of(time);
     match one {
-        Seconds::At(seconds) => say_seconds_at(seconds, seconds_of_by_walk(time)),
-        Seconds::Refused(why) => say_seconds_refused(why, seconds_of_by_walk(time)),
+        Seconds::At(seconds) => say_seconds_at(seconds, walk::seconds_of(time)),
+        Seconds::Refused(why) => say_seconds_refused(why, walk::seconds_of(time)),
     }
 }
 
 pub fn say_fields(seconds: i64) {
     let one = fields_of(seconds);
     match one {
-        Fields::At(time) => say_fields_at(time, fields_of_by_walk(seconds)),
-        Fields::Refused(why) => say_fields_refused(why, fields_of_by_walk(seconds)),
+        Fields::At(time) => say_fields_at(time, walk::fields_of(seconds)),
+        Fields::Refused(why) => say_fields_refused(why, walk::fields_of(seconds)),
     }
 }

@@ -1,7 +1,8 @@
 -- `seconds_at` meets its contract: the answer about the date, taken apart. Assumes nothing.
 use borrow.Author.Needs.{needs}
 use mathlib.Core.Path.{_≡_, sym, ap, _∙_}
-use mir.Syntax.{w64}
+use mir.Syntax.{w32, w64}
+use mir.Val.{toZ, ofZ}
 use mir.Facts.{toZ-ofZ}
 use Rattle.refusal.specs.Answers.{gives}
 use Rattle.gregorian.specs.Answers.{readDay, dayFor}
@@ -33,18 +34,25 @@ given c =
     let s = c .before .before .before .before in
     sym (ap readDay (c .before .found .given .1)) ∙ (rw (toZ-ofZ (s .fits .year)) at (c .before .before .before .day-of .ensures))
 
-seconds-on-requires : tie.Need-seconds-on-requires
-seconds-on-requires c κs =
+-- the day number, as the machine reads it back
+read : (c : tie.After-known-told) → let z = c .before .found .given .0 .0 in toZ w64 (ofZ w64 z) ≡ z
+read c = toZ-ofZ {w = w64} {z = c .before .found .given .0 .0} (record { sfits = c .known-told .given .0 .1 })
+
+cast-seconds-on : tie.Need-cast-seconds-on
+cast-seconds-on c =
     let s = c .before .before .before .before in
-    rw (toZ-ofZ {w = w64} (record { sfits = c .known-told .given .0 .1 })) (day-small (s .args .year) (s .args .month) (s .args .day) (given c))
+    rw (read c) (day-small (s .args .year) (s .args .month) (s .args .day) (given c))
+
+seconds-on-requires : tie.Need-seconds-on-requires
+seconds-on-requires c κs = search needs
 
 returns-2 : tie.Need-returns-2
 returns-2 c =
     let s = c .before .before .before .before .before in
-    c .seconds-on .ensures ∙ ap (λ z. secondsOn z (s .args .hour) (s .args .minute) (s .args .second)) (toZ-ofZ {w = w64} {z = c .before .before .found .given .0 .0} (record { sfits = c .before .known-told .given .0 .1 }))
+    c .seconds-on .ensures ∙ ap (λ z. secondsOn z (s .args .hour) (s .args .minute) (s .args .second)) (toZ-ofZ {w = w32} (cast-seconds-on (c .before)) ∙ read (c .before))
     ∙ sym (some-day (time s) (given (c .before)))
 
 pub seconds-at-spec : {M : Type 1} → statement M
 seconds-at-spec =
     tie.close
-    (tie.spec day-of-requires enum-known-found enum-told returns seconds-on-requires returns-2)
+    (tie.spec day-of-requires enum-known-found enum-told returns cast-seconds-on seconds-on-requires returns-2)

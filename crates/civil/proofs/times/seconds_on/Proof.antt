@@ -3,7 +3,7 @@ use borrow.Author.Needs.{needs}
 use mathlib.Core.Path.{_≡_, sym, ap, _∙_}
 use Prim.Native.Nat.{_+_, _*_}
 use lib.IntN.{pos, _+ℤ_, _*ℤ_}
-use mir.Syntax.{w64}
+use mir.Syntax.{w32, w64}
 use mir.Val.{SFits, toZ, ofZ}
 use mir.Facts.{toZ-ofZ, toZ-pos}
 use Rattle.civil.specs.Times.{secondsFrom}
@@ -33,28 +33,34 @@ add-passed c = search needs
 add-passed-2 : tie.Need-add-passed-2
 add-passed-2 c = search needs
 
-mul-total : tie.Need-mul-total
-mul-total c = let s = c .before .before .before in rw (toZ-ofZ (s .fits .number)) (days-fit (s .args .number) (s .pre))
-
 cast-total : tie.Need-cast-total
-cast-total c = search needs
+cast-total c = let s = c .before .before .before in rw (toZ-ofZ (s .fits .number)) (record { sfits = omega (arith, s .fits .number .sfits) })
+
+-- the number, as the machine reads it back of 64 bits
+wide : (c : tie.Else3) → let s = c .before .before .before .args in toZ w64 (ofZ w64 (toZ w32 (ofZ w32 (s .number)))) ≡ s .number
+wide c = toZ-ofZ (cast-total c) ∙ toZ-ofZ (c .before .before .before .fits .number)
+
+mul-total : tie.Need-mul-total
+mul-total c = let s = c .before .before .before in rw (wide c) (days-fit (s .args .number) (s .fits .number .sfits))
+
+cast-total-2 : tie.Need-cast-total-2
+cast-total-2 c = search needs
 
 -- the sum, as the machine reads it back
 sum : (c : tie.Else3) → let s = c .before .before .before .args in
-    toZ w64 (ofZ w64 (toZ w64 (ofZ w64 (s .number)) *ℤ pos 86400)) +ℤ toZ w64 (s .hour * 3600 + s .minute * 60 + s .second) ≡ secondsFrom (s .number) (s .hour) (s .minute) (s .second)
+    toZ w64 (ofZ w64 (toZ w64 (ofZ w64 (toZ w32 (ofZ w32 (s .number)))) *ℤ pos 86400)) +ℤ toZ w64 (s .hour * 3600 + s .minute * 60 + s .second) ≡ secondsFrom (s .number) (s .hour) (s .minute) (s .second)
 sum c =
-    let s = c .before .before .before in
-    let d = toZ-ofZ {w = w64} (mul-total c) ∙ ap (λ z. z *ℤ pos 86400) (toZ-ofZ (s .fits .number)) in
-    let t = toZ-pos w64 (cast-total c .sfits) in
+    let d = toZ-ofZ {w = w64} (mul-total c) ∙ ap (λ z. z *ℤ pos 86400) (wide c) in
+    let t = toZ-pos w64 (cast-total-2 c .sfits) in
     λ i. d i +ℤ t i
 
 fit : (c : tie.Else3) → let s = c .before .before .before .args in SFits w64 (secondsFrom (s .number) (s .hour) (s .minute) (s .second))
 fit c =
     let s = c .before .before .before in
-    seconds-fit (s .args .number) (s .args .hour * 3600 + s .args .minute * 60 + s .args .second) (s .pre) (omega arith)
+    seconds-fit (s .args .number) (s .args .hour * 3600 + s .args .minute * 60 + s .args .second) (s .fits .number .sfits) (omega arith)
 
 total : (c : tie.Else3) → let s = c .before .before .before .args in
-    toZ w64 (ofZ w64 (toZ w64 (ofZ w64 (toZ w64 (ofZ w64 (s .number)) *ℤ pos 86400)) +ℤ toZ w64 (s .hour * 3600 + s .minute * 60 + s .second))) ≡ secondsFrom (s .number) (s .hour) (s .minute) (s .second)
+    toZ w64 (ofZ w64 (toZ w64 (ofZ w64 (toZ w64 (ofZ w64 (toZ w32 (ofZ w32 (s .number)))) *ℤ pos 86400)) +ℤ toZ w64 (s .hour * 3600 + s .minute * 60 + s .second))) ≡ secondsFrom (s .number) (s .hour) (s .minute) (s .second)
 total c = toZ-ofZ (rw (sum c) (fit c)) ∙ sum c
 
 add-total : tie.Need-add-total
@@ -89,8 +95,9 @@ seconds-on-spec =
     mul-passed-2
     add-passed
     add-passed-2
-    mul-total
     cast-total
+    mul-total
+    cast-total-2
     add-total
     returns-4
     returns-5

@@ -5,21 +5,22 @@ use mathlib.Core.Bool.{true}
 use mir.Facts.{toZ-ofZ}
 use Rattle.refusal.specs.Answers.{gives}
 use Rattle.gregorian.specs.Dates.{goodDayNumber}
-use Rattle.gregorian.proofs.Days.{day-early, day-late, day-good, date-for}
+use Rattle.gregorian.proofs.Tests.{number-early, number-late, number-good}
+use Rattle.gregorian.proofs.Days.{date-at}
 use Rattle.gregorian.proofs.dates.date_of.Statement.{statement}
 use Rattle.gregorian.proofs.dates.date_of.Tie as tie
 
 returns : tie.Need-returns
-returns c = sym (day-early (c .before .args .number) (rw (toZ-ofZ (c .before .fits .number)) at (c .if1 .taken)))
+returns c = rw (number-early (c .before .args .number) (rw (toZ-ofZ (c .before .fits .number)) at (c .if1 .taken)))
 
 returns-2 : tie.Need-returns-2
-returns-2 c = sym (day-late (c .before .before .args .number) (rw (toZ-ofZ (c .before .before .fits .number)) at (c .if2 .taken)))
+returns-2 c = rw (number-late (c .before .before .args .number) (rw (toZ-ofZ (c .before .before .fits .number)) at (c .if2 .taken)))
 
 good : (c : tie.Else2) → goodDayNumber (c .before .before .args .number) ≡ true
 good c =
     let s = c .before .before in
     let f = toZ-ofZ (s .fits .number) in
-    day-good (s .args .number) (rw f at (c .before .if1 .left)) (rw f at (c .if2 .left))
+    number-good (s .args .number) (rw f at (c .before .if1 .left)) (rw f at (c .if2 .left))
 
 days-to-requires : tie.Need-days-to-requires
 days-to-requires c κs = rw (toZ-ofZ (c .before .before .fits .number)) (good c)
@@ -34,7 +35,7 @@ returns-3 : tie.Need-returns-3
 returns-3 c =
     let s = c .before .before .before .before .before in
     let n = rw (toZ-ofZ (s .fits .number)) at (c .before .before .days-to .ensures .0) in
-    ap gives (c .date-in-year .ensures) ∙ date-for (s .args .number) (good (c .before .before .before)) (rw n at (c .before .year-of .ensures))
+    rw (good (c .before .before .before)) (ap gives (c .date-in-year .ensures ∙ sym (date-at (s .args .number) (rw n at (c .before .year-of .ensures)))))
 
 pub date-of-spec : {M : Type 1} → statement M
 date-of-spec =

@@ -1,6 +1,5 @@
 -- `day_in_year` meets its contract: each refusal fails one test of the definition, and what is left is the sum. Assumes nothing.
 use borrow.Author.Needs.{needs}
-use borrow.Author.Tests.{le-leb, lt-leb}
 use mathlib.Core.Path.{_≡_, sym, ap, _∙_}
 use Prim.Native.Nat.{_+_, _-_, _<_}
 use lib.IntN.{subℕ}
@@ -11,23 +10,20 @@ use Rattle.refusal.specs.Answers.{gives}
 use Rattle.gregorian.specs.Gregorian.{leap, months, monthLength, yearAt, daysOfYears, daysOfMonths}
 use Rattle.gregorian.proofs.YearSums.{years-high}
 use Rattle.gregorian.proofs.MonthSums.{month-most, months-most}
+use Rattle.gregorian.proofs.Tests.{month-early, month-late, day-early, day-late, month-day-good}
 use Rattle.gregorian.proofs.Days.{number, days-in-year}
 use native.Mathlib.Omega.{arith}
 use Rattle.gregorian.proofs.dates.day_in_year.Statement.{statement}
 use Rattle.gregorian.proofs.dates.day_in_year.Tie as tie
 
 returns : tie.Need-returns
-returns c = simp (lt-leb 1 (c .before .args .month) (c .if1 .taken))
+returns c = let s = c .before .args in rw (month-early (yearAt (s .years)) (s .month) (s .day) (c .if1 .taken))
 
 returns-2 : tie.Need-returns-2
-returns-2 c =
-    let s = c .before .before .args in
-    simp (le-leb 1 (s .month) (omega arith), lt-leb (s .month) 12 (c .if2 .taken))
+returns-2 c = let s = c .before .before .args in rw (month-late (yearAt (s .years)) (s .month) (s .day) (c .if2 .taken))
 
 returns-3 : tie.Need-returns-3
-returns-3 c =
-    let s = c .before .before .before .args in
-    simp (le-leb 1 (s .month) (omega arith), le-leb (s .month) 12 (omega arith), lt-leb 1 (s .day) (c .if3 .taken))
+returns-3 c = let s = c .before .before .before .args in rw (day-early (yearAt (s .years)) (s .month) (s .day) (c .if3 .taken))
 
 is-leap-requires : tie.Need-is-leap-requires
 is-leap-requires c κs = search needs
@@ -45,12 +41,7 @@ length-is c =
 returns-4 : tie.Need-returns-4
 returns-4 c =
     let s = c .before .before .before .before .before .before .args in
-    simp (
-      le-leb 1 (s .month) (omega arith),
-      le-leb (s .month) 12 (omega arith),
-      le-leb 1 (s .day) (omega arith),
-      lt-leb (s .day) (monthLength (yearAt (s .years)) (s .month)) (omega (arith, length-is (c .before))),
-    )
+    rw (day-late (yearAt (s .years)) (s .month) (s .day) (omega (arith, length-is (c .before))))
 
 days-before-month-requires : tie.Need-days-before-month-requires
 days-before-month-requires c κs = search needs
@@ -82,12 +73,7 @@ returns-5 : tie.Need-returns-5
 returns-5 c =
     let s = c .before .before .before .before .before .before .before .before in
     let y = yearAt (s .args .years) in
-    simp (
-      le-leb 1 (s .args .month) (omega arith),
-      le-leb (s .args .month) 12 (omega arith),
-      le-leb 1 (s .args .day) (omega arith),
-      le-leb (s .args .day) (monthLength y (s .args .month)) (omega (arith, length-is (c .before .before .before))),
-    )
+    rw (month-day-good y (s .args .month) (s .args .day) (omega arith) (omega arith) (omega arith) (omega (arith, length-is (c .before .before .before))))
     (ap gives
     (toZ-ofZ {w = w64} (record { sfits = c .number-at .ok }) ∙ c .number-at .ensures
     ∙ ap (λ n. subℕ n 4371953) (total (c .before) ∙ sym (days-in-year (s .args .years) (s .args .month) (s .args .day)))

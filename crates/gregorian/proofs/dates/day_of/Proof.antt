@@ -1,22 +1,23 @@
 -- `day_of` meets its contract: by the two tests of the year. Assumes nothing.
 use borrow.Author.Needs.{needs}
-use mathlib.Core.Path.{_≡_, sym, _∙_}
+use mathlib.Core.Path.{_≡_, _∙_}
 use mathlib.Core.Bool.{true}
 use mir.Facts.{toZ-ofZ}
 use Rattle.gregorian.specs.Dates.{goodYear}
-use Rattle.gregorian.proofs.Days.{year-early, year-late, year-good, day-for}
+use Rattle.gregorian.proofs.Tests.{year-early, year-late, year-good}
+use Rattle.gregorian.proofs.Days.{day-for}
 use Rattle.gregorian.proofs.dates.day_of.Statement.{statement}
 use Rattle.gregorian.proofs.dates.day_of.Tie as tie
 
 returns : tie.Need-returns
 returns c =
     let s = c .before in
-    sym (year-early (s .args .year) (s .args .month) (s .args .day) (rw (toZ-ofZ (s .fits .year)) at (c .if1 .taken)))
+    rw (year-early (s .args .year) (rw (toZ-ofZ (s .fits .year)) at (c .if1 .taken)))
 
 returns-2 : tie.Need-returns-2
 returns-2 c =
     let s = c .before .before in
-    sym (year-late (s .args .year) (s .args .month) (s .args .day) (rw (toZ-ofZ (s .fits .year)) at (c .if2 .taken)))
+    rw (year-late (s .args .year) (rw (toZ-ofZ (s .fits .year)) at (c .if2 .taken)))
 
 good : (c : tie.Else2) → goodYear (c .before .before .args .year) ≡ true
 good c =
