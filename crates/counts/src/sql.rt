@@ -1,10 +1,9 @@
 // Layout 16: days from 1900-01-01 and ticks of 1/300 second.
 ghost use mathlib.Core.Path.{_≡_};
-ghost use Prim.Native.Nat.{_+_, _*_, _<_, _^_};
-ghost use lib.IntN.{ℤ, pos};
+ghost use Prim.Native.Nat.{_<_, _^_};
 ghost use lib.Signed.{mag};
 ghost use Rattle.instant.specs.Answers.{readEncoded, readDecoded};
-ghost use Rattle.counts.specs.Sql.{sqlDecode, sqlEncode, sqlWord, dayWord, rolled, nearestTick};
+ghost use Rattle.counts.specs.Sql.{sqlDecode, sqlEncode, dayWord, rolled};
 use instant::Decoded;
 use instant::Encoded;
 use instant::Instant;

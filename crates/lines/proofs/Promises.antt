@@ -1,5 +1,4 @@
 -- The promises of specs/Promises: by the layout's number, and by the nanoseconds. Assumes nothing.
-use mathlib.Core.Path.{_≡_}
 use Rattle.lines.specs.Answers.{decodedText, encodedText, answerText}
 use Rattle.lines.specs.Promises.{OneThenNine}
 use Rattle.lines.proofs.Refusals.{no-rule, nine}

@@ -7,7 +7,6 @@ use native.Mathlib.Nat.{zero-add, mul-mod-left, mod-one, mul-le-mul-right, div-a
 use native.Mathlib.Omega.{arith}
 use native.Mathlib.Decide.{decLt}
 use lib.Dec.{ltb}
-use lib.IntN.{ℤ}
 use lib.Signed.{ltZ}
 use borrow.Author.Tests.{le-ltb, ltb-true, ltb-false}
 use Rattle.refusal.specs.Answers.{gives, refused}

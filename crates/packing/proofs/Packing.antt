@@ -11,7 +11,6 @@ use mir.Syntax.{w64}
 use mir.Val.{ofZ}
 use borrow.Author.Tests.{lt-leb, leb-true}
 use Rattle.refusal.specs.Answers.{Answer, gives, refused}
-use Rattle.refusal.proofs.Answers.{clash}
 use Rattle.signed.proofs.Tests.{and-false, and-left, and-right}
 use Rattle.civil.specs.Promises.{Ranged}
 use Rattle.civil.specs.declared.times.Civil.{Civil}

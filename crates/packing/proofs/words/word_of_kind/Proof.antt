@@ -1,6 +1,6 @@
 -- `word_of_kind` meets its contract: the answer about the seconds, taken apart, and the packed bits. Assumes nothing.
 use borrow.Author.Needs.{needs}
-use mathlib.Core.Path.{_≡_, refl, sym, ap, _∙_, subst}
+use mathlib.Core.Path.{_≡_, sym, ap, _∙_, subst}
 use mir.Facts.{toZ-ofZ}
 use Rattle.refusal.specs.Answers.{gives}
 use Rattle.civil.specs.Answers.{readFields, fieldsFor}
