@@ -9,7 +9,8 @@ use lib.IntN.{pos, subℕ, _+ℤ_, _*ℤ_}
 use lib.Signed.{ltZ}
 use borrow.Author.Tests.{lt-ltb, le-ltb}
 use Rattle.signed.proofs.Differences.{minus, times-plus, order}
-use Rattle.gregorian.specs.Gregorian.{yearAt, yearsTo, daysTo}
+use Rattle.lengths.specs.Lengths.{yearAt}
+use Rattle.gregorian.specs.Gregorian.{yearsTo, daysTo}
 use Rattle.gregorian.specs.Dates.{goodDate}
 use Rattle.gregorian.proofs.Days.{year-back, number}
 use Rattle.gregorian.proofs.Trip.{its-year}

@@ -13,10 +13,11 @@ use Rattle.refusal.proofs.Answers.{only, same-refusal}
 use Rattle.signed.specs.Floor.{quotient, rest, floorDiv, floorRem}
 use Rattle.signed.proofs.Floor.{floor-law, floor-back, rest-of-rest}
 use Rattle.signed.proofs.Tests.{and-left, and-right}
-use Rattle.gregorian.specs.Gregorian.{leap, daysOfMonths, daysTo, dayNumber}
+use Rattle.lengths.specs.Lengths.{leap, daysOfMonths}
+use Rattle.lengths.proofs.Months.{month-most}
+use Rattle.gregorian.specs.Gregorian.{daysTo, dayNumber}
 use Rattle.gregorian.specs.Dates.{goodDate, dateAt}
 use Rattle.gregorian.proofs.YearSums.{closed-is}
-use Rattle.gregorian.proofs.MonthSums.{month-most}
 use Rattle.gregorian.proofs.Days.{year-low, year-high}
 use Rattle.gregorian.proofs.Trip.{its-year, its-month-low, its-month-high, its-day-low, its-day-high}
 use Rattle.gregorian.proofs.Promises.{day-of-its-date, date-of-its-day}

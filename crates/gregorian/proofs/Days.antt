@@ -11,7 +11,8 @@ use mir.Val.{SFits}
 use Rattle.signed.proofs.Differences.{minus, lower, raised, raised-high, raised-back}
 use Rattle.signed.proofs.Machine.{Raises, raises}
 use Rattle.signed.proofs.Tests.{leZ-le, and-left, and-right}
-use Rattle.gregorian.specs.Gregorian.{leap, months, daysOfMonths, yearDays, yearAt, yearsTo, daysOfYears, daysTo, dayNumber}
+use Rattle.lengths.specs.Lengths.{leap, months, daysOfMonths, yearDays, yearAt}
+use Rattle.gregorian.specs.Gregorian.{yearsTo, daysOfYears, daysTo, dayNumber}
 use Rattle.gregorian.specs.Dates.{goodYear, goodDayNumber, yearsIn, monthsIn, dateInYear, dateIn, dateAt}
 use Rattle.gregorian.specs.Answers.{dayFor}
 use Rattle.gregorian.specs.Parts.{InMonth, InYear, dayInYear}

@@ -1,5 +1,4 @@
 pub mod Wholes
-pub mod Leap
 pub mod YearSums
 pub mod MonthSums
 pub mod Days

@@ -1,51 +1,18 @@
--- The months' lengths, their sum in closed form, and the month of a day by a guess. What holds of each month of each row is
+-- The sum of the months' lengths in closed form, and the month of a day by a guess. What holds of each month of each row is
 -- one test that is computed over the row.
 use mathlib.Core.Path.{_≡_, refl, ap}
 use mathlib.Core.Bool.{Bool, true, false, _&&_}
-use Prim.Native.Nat.{ℕ, zero, suc, _+_, _-_, _*_, _/_, _<_, _≤_}
+use Prim.Native.Nat.{ℕ, suc, _+_, _-_, _*_, _/_, _<_, _≤_}
 use native.Mathlib.Omega.{arith}
 use native.Mathlib.Numerals.{add-one}
 use native.Mathlib.Decide.{decLt}
 use lib.Dec.{T, leb, eqb, leb→le, eqb→eq}
-use lib.ListN.{getD, List·getD-eq-default}
+use lib.ListN.{getD}
 use borrow.Author.Tests.{lt-ltb, le-ltb}
-use Rattle.gregorian.specs.Gregorian.{months, daysOfMonths}
+use Rattle.lengths.specs.Lengths.{months, daysOfMonths}
+use Rattle.lengths.proofs.Months.{each, first, other, at}
 use Rattle.gregorian.specs.Parts.{lackingOf, InMonth}
 use Rattle.gregorian.proofs.Wholes.{fewer}
-
--- a test of the numbers below n
-abbrev each : (ℕ → Bool) → ℕ → Bool
-each p zero = true
-each p (suc n) = p n && each p n
-
-first : (a b : Bool) → T (a && b) → T a
-first true b t = tt
-first false b t = t
-
-other : (a b : Bool) → T (a && b) → T b
-other true b t = t
-other false b t = absurd t
-
-at : (p : ℕ → Bool) (n : ℕ) → T (each p n) → (k : ℕ) → k < n → T (p k)
-at p zero t k h = absurd (omega arith)
-at p (suc n) t k h = go (decLt k n) (at p n (other (p n) (each p n) t) k)
-  where
-    go : Dec (k < n) → (k < n → T (p k)) → T (p k)
-    go (yes l) below = below l
-    go (no l) below = let e : n ≡ k = omega arith in rw e at (first (p n) (each p n) t)
-
--- no month has more than 31 days
-short : (b : Bool) → T (each (λ k. leb (getD (months b) k 0) 31) 12)
-short true = tt
-short false = tt
-
-pub month-most : (b : Bool) (k : ℕ) → k < 12 → getD (months b) k 0 ≤ 31
-month-most b k h = leb→le (getD (months b) k 0) 31 (at (λ j. leb (getD (months b) j 0) 31) 12 (short b) k h)
-
--- a month that no year has has no days
-pub no-month : (b : Bool) (k : ℕ) → 12 ≤ k → getD (months b) k 0 ≡ 0
-no-month true k h = List·getD-eq-default (months true) 0 h
-no-month false k h = List·getD-eq-default (months false) 0 h
 
 -- one month more
 pub months-step : (b : Bool) (k : ℕ) → daysOfMonths b (k + 1) ≡ daysOfMonths b k + getD (months b) k 0

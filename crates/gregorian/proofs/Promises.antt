@@ -6,7 +6,8 @@ use native.Mathlib.Omega.{arith}
 use lib.IntN.{ℤ, pos, subℕ, _+ℤ_}
 use Rattle.signed.proofs.Differences.{minus, plus, lower, raised, raised-low, raised-back, low, high}
 use Rattle.signed.proofs.Tests.{le-leZ}
-use Rattle.gregorian.specs.Gregorian.{leap, monthLength, daysOfMonths, yearDays, yearAt, yearsTo, daysTo, dayNumber}
+use Rattle.lengths.specs.Lengths.{leap, monthLength, daysOfMonths, yearDays, yearAt}
+use Rattle.gregorian.specs.Gregorian.{yearsTo, daysTo, dayNumber}
 use Rattle.gregorian.specs.Dates.{dateIn, dateAt}
 use Rattle.gregorian.specs.Promises.{DayZero, NextDay, NextMonth, NextYear, YearLengths, DayOfItsDate, DateOfItsDay}
 use Rattle.gregorian.proofs.YearSums.{closed-is, years-step, all-years, row-days}

@@ -5,7 +5,8 @@ use lib.Dec.{ltb, leb}
 use lib.ListN.{getD}
 use lib.IntN.{ℤ, pos, negℤ, natAbs, _+ℤ_}
 use lib.Signed.{leZ}
-use Rattle.gregorian.specs.Gregorian.{leap, months, monthLength, daysOfMonths, yearDays, yearAt, daysOfYears, daysTo, dayNumber}
+use Rattle.lengths.specs.Lengths.{leap, months, monthLength, daysOfMonths, yearDays, yearAt}
+use Rattle.gregorian.specs.Gregorian.{daysOfYears, daysTo, dayNumber}
 use Rattle.gregorian.specs.declared.dates.Date.{Date}
 
 -- the year is from -9999 to 9999, the month from 1 to 12, and the day fits the month

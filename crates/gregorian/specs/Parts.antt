@@ -6,7 +6,8 @@ use lib.Dec.{ltb}
 use lib.IntN.{ℤ}
 use lib.ListN.{getD}
 use Rattle.refusal.specs.Answers.{Answer, gives, refused}
-use Rattle.gregorian.specs.Gregorian.{months, daysOfMonths, yearDays, yearAt, daysOfYears, dayNumber}
+use Rattle.lengths.specs.Lengths.{months, daysOfMonths, yearDays, yearAt}
+use Rattle.gregorian.specs.Gregorian.{daysOfYears, dayNumber}
 use Rattle.gregorian.specs.Dates.{goodMonthDay}
 
 -- what February lacks of 30 days, of the month k, from 0

@@ -3,7 +3,8 @@ use mathlib.Core.Path.{_≡_}
 use mathlib.Core.Bool.{true}
 use Prim.Native.Nat.{ℕ, _+_, _≤_}
 use lib.IntN.{ℤ, pos, _+ℤ_}
-use Rattle.gregorian.specs.Gregorian.{leap, monthLength, yearDays, dayNumber}
+use Rattle.lengths.specs.Lengths.{leap, monthLength, yearDays}
+use Rattle.gregorian.specs.Gregorian.{dayNumber}
 use Rattle.gregorian.specs.Dates.{goodYear, goodDate, goodDayNumber, dateAt}
 
 -- ---- the definition of the day number, at sight

@@ -3,16 +3,17 @@ ghost use mathlib.Core.Path.{_≡_};
 ghost use mathlib.Core.Bool.{true};
 ghost use Prim.Native.Nat.{_<_};
 ghost use lib.IntN.{natAbs, pos, subℕ, _+ℤ_};
-ghost use Rattle.gregorian.specs.Gregorian.{yearAt, yearsTo, yearDays, daysOfYears};
+ghost use Rattle.lengths.specs.Lengths.{yearAt, yearDays};
+ghost use Rattle.gregorian.specs.Gregorian.{yearsTo, daysOfYears};
 ghost use Rattle.gregorian.specs.Dates.{goodYear, goodDayNumber, dateInYear};
 ghost use Rattle.gregorian.specs.Answers.{readDay, readDated, dayFor, dateFor};
 ghost use Rattle.gregorian.specs.Parts.{dayInYear};
 use crate::months::days_before_month;
-use crate::months::month_days;
 use crate::months::month_of;
 use crate::years::days_before_year;
-use crate::years::is_leap;
 use crate::years::year_of;
+use lengths::is_leap;
+use lengths::length_of_month;
 use refusal::Refusal;
 
 // The day number of a date, or why there is none.
@@ -87,7 +88,7 @@ fn day_in_year(years: u64, start: u64, month: u64, day: u64) -> Day
         });
     }
     let leap = is_leap(years);
-    if month_days(leap, month - 1) < day {
+    if length_of_month(leap, month - 1) < day {
         return Day::Refused(Refusal {
             number: Refusal::FIELDS,
         });

@@ -1,9 +1,8 @@
 // The proleptic Gregorian calendar in whole days, with a year 0: the day number of a date, counted from 1 January 1970,
 // and the date of a day number, for the years -9999 to 9999.
 //
-// Both take the same time for every year. The leap rule and the lengths of the months are handed out too, for whoever
-// counts by them. There and inside, years and days are counted from 1 January -10000, so that they are never negative:
-// 10000 is a multiple of 400, and the leap rule reads the same.
+// Both take the same time for every year. Inside, years and days are counted from 1 January -10000, so that they are never
+// negative: 10000 is a multiple of 400, and the leap rule reads the same.
 mod dates;
 mod months;
 mod years;
@@ -13,5 +12,3 @@ pub use dates::Dated;
 pub use dates::Day;
 pub use dates::date_of;
 pub use dates::day_of;
-pub use months::length_of_month;
-pub use years::is_leap;

@@ -1,34 +1,9 @@
-// The months: their lengths, the days before each, and the month of a day of a year. A month is counted from 0 here.
+// The days before a month, and the month of a day of a year. A month is counted from 0 here.
 ghost use mathlib.Core.Path.{_≡_};
 ghost use Prim.Native.Nat.{_≤_, _<_};
-ghost use lib.ListN.{getD};
-ghost use Rattle.gregorian.specs.Gregorian.{months, daysOfMonths};
+ghost use Rattle.lengths.specs.Lengths.{daysOfMonths};
 ghost use Rattle.gregorian.specs.Parts.{lackingOf, InMonth};
-
-// The lengths of the months: row 0 for common years, row 1 for leap years.
-const MONTHS: [[u8; 12]; 2] = [
-    [31, 28, 31, 30, 31, 30, 31, 31, 30, 31, 30, 31],
-    [31, 29, 31, 30, 31, 30, 31, 31, 30, 31, 30, 31],
-];
-
-// The length of a month.
-pub fn month_days(leap: bool, month: u64) -> u64
-    requires { ⌜ month < 12 ⌝ }
-    ensures { λ r. ⌜ r ≡ getD (months leap) month 0 ⌝ }
-{
-    MONTHS[leap as usize][month as usize] as u64
-}
-
-// The same, of a month that no year has too: that one has no days.
-pub fn length_of_month(leap: bool, month: u64) -> u64
-    ensures { λ r. ⌜ r ≡ getD (months leap) month 0 ⌝ }
-{
-    if month < 12 {
-        month_days(leap, month)
-    } else {
-        0
-    }
-}
+use lengths::length_of_month;
 
 // What February lacks of 30 days, of a month after it.
 fn lacking(leap: bool, month: u64) -> u64
@@ -61,7 +36,7 @@ pub fn month_of(leap: bool, day: u64) -> MonthDay
 {
     let guess = day / 32;
     let left = day - days_before_month(leap, guess);
-    let length = month_days(leap, guess);
+    let length = length_of_month(leap, guess);
     if left < length {
         MonthDay { month: guess, left }
     } else {

@@ -1,19 +1,8 @@
-// The years, counted from -10000: the leap rule, the days before a year, and the year of a day.
+// The years, counted from -10000: the days before a year, and the year of a day.
 ghost use mathlib.Core.Path.{_≡_};
 ghost use Prim.Native.Nat.{_≤_, _<_};
-ghost use Rattle.gregorian.specs.Gregorian.{leap, yearAt, daysOfYears};
+ghost use Rattle.gregorian.specs.Gregorian.{daysOfYears};
 ghost use Rattle.gregorian.specs.Parts.{InYear};
-
-// Whether a year is leap. Of the years that 100 divides, 16 divides just those that 400 divides.
-pub fn is_leap(years: u64) -> bool
-    ensures { λ r. ⌜ r ≡ leap (yearAt years) ⌝ }
-{
-    if years % 100 == 0 {
-        years % 16 == 0
-    } else {
-        years % 4 == 0
-    }
-}
 
 // The days before a year: 365 for each, and one for each leap year.
 pub fn days_before_year(years: u64) -> u64

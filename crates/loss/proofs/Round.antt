@@ -14,7 +14,8 @@ use Rattle.refusal.specs.Answers.{Answer, gives, refused}
 use Rattle.refusal.proofs.Answers.{clash}
 use Rattle.signed.proofs.Differences.{low, high, most}
 use Rattle.signed.proofs.Tests.{le-leZ, and-left, and-right}
-use Rattle.gregorian.specs.Gregorian.{yearDays, yearAt, yearsTo, daysOfYears}
+use Rattle.lengths.specs.Lengths.{yearDays, yearAt}
+use Rattle.gregorian.specs.Gregorian.{yearsTo, daysOfYears}
 use Rattle.gregorian.proofs.YearSums.{closed-is, years-suc}
 use Rattle.gregorian.proofs.Wholes.{rises}
 use Rattle.gregorian.proofs.Trip.{in-its-year}

@@ -3,7 +3,8 @@
 use mathlib.Core.Path.{_≡_, refl, sym, ap, _∙_}
 use mathlib.Core.Bool.{true}
 use lib.IntN.{pos}
-use Rattle.gregorian.specs.Gregorian.{leap, daysOfMonths, daysTo, dayNumber}
+use Rattle.lengths.specs.Lengths.{leap, daysOfMonths}
+use Rattle.gregorian.specs.Gregorian.{daysTo, dayNumber}
 use Rattle.gregorian.proofs.YearSums.{closed-is}
 use Rattle.civil.specs.Times.{good, secondsOf, fieldsAt}
 use Rattle.civil.specs.declared.times.Civil.{Civil}

@@ -1,5 +1,6 @@
 -- The table of stamps, computed once. The sum of the years is closed first: summed year by year it takes long.
-use Rattle.gregorian.specs.Gregorian.{leap, daysOfMonths, daysTo, dayNumber}
+use Rattle.lengths.specs.Lengths.{leap, daysOfMonths}
+use Rattle.gregorian.specs.Gregorian.{daysTo, dayNumber}
 use Rattle.gregorian.proofs.YearSums.{closed-is}
 use Rattle.civil.specs.Times.{secondsOf}
 use Rattle.places.specs.Orders.{reversed, ordered}

@@ -8,8 +8,8 @@ use crate::months::month_of;
 use crate::years::days_before_year;
 use crate::years::year_of;
 use gregorian::Date;
-use gregorian::is_leap;
-use gregorian::length_of_month;
+use lengths::is_leap;
+use lengths::length_of_month;
 
 // How many years a year is after -10000.
 fn years_to(year: i64) -> u64

@@ -1,10 +1,10 @@
 // The days before a month and the month of a day of a year, from month to month. Months are counted from 0.
 ghost use mathlib.Core.Path.{_≡_};
 ghost use Prim.Native.Nat.{_≤_, _<_};
-ghost use Rattle.gregorian.specs.Gregorian.{daysOfMonths};
+ghost use Rattle.lengths.specs.Lengths.{daysOfMonths};
 ghost use Rattle.gregorian.specs.Parts.{InMonth};
 use crate::passed::Passed;
-use gregorian::length_of_month;
+use lengths::length_of_month;
 
 // The days before a month, summed.
 pub fn days_before_month(leap: bool, month: u64) -> u64

@@ -1,10 +1,11 @@
 // The days before a year and the year of a day, from year to year. Years are counted from -10000.
 ghost use mathlib.Core.Path.{_≡_};
 ghost use Prim.Native.Nat.{_≤_, _<_};
-ghost use Rattle.gregorian.specs.Gregorian.{yearDays, yearAt, daysOfYears};
+ghost use Rattle.lengths.specs.Lengths.{yearDays, yearAt};
+ghost use Rattle.gregorian.specs.Gregorian.{daysOfYears};
 ghost use Rattle.gregorian.specs.Parts.{InYear};
 use crate::passed::Passed;
-use gregorian::is_leap;
+use lengths::is_leap;
 
 // The days of a year.
 fn year_days(years: u64) -> u64

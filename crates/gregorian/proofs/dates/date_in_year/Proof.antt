@@ -3,9 +3,9 @@ use borrow.Author.Needs.{needs}
 use mathlib.Core.Path.{sym, ap, _∙_, subst}
 use mir.Syntax.{w64}
 use mir.Facts.{toZ-ofZ}
-use Rattle.gregorian.specs.Gregorian.{leap, daysOfMonths, yearDays, yearAt}
+use Rattle.lengths.specs.Lengths.{leap, daysOfMonths, yearDays, yearAt}
+use Rattle.lengths.proofs.Months.{month-most}
 use Rattle.gregorian.specs.Parts.{InMonth}
-use Rattle.gregorian.proofs.MonthSums.{month-most}
 use Rattle.gregorian.proofs.Days.{date-in-year}
 use native.Mathlib.Omega.{arith}
 use Rattle.gregorian.proofs.dates.date_in_year.Statement.{statement}

@@ -7,9 +7,11 @@ use lib.ListN.{getD}
 use mir.Syntax.{w64}
 use mir.Facts.{toZ-ofZ}
 use Rattle.refusal.specs.Answers.{gives}
-use Rattle.gregorian.specs.Gregorian.{leap, months, monthLength, yearAt, daysOfYears, daysOfMonths}
+use Rattle.lengths.specs.Lengths.{leap, months, monthLength, yearAt, daysOfMonths}
+use Rattle.lengths.proofs.Months.{month-most}
+use Rattle.gregorian.specs.Gregorian.{daysOfYears}
 use Rattle.gregorian.proofs.YearSums.{years-high}
-use Rattle.gregorian.proofs.MonthSums.{month-most, months-most}
+use Rattle.gregorian.proofs.MonthSums.{months-most}
 use Rattle.gregorian.proofs.Tests.{month-early, month-late, day-early, day-late, month-day-good}
 use Rattle.gregorian.proofs.Days.{number, days-in-year}
 use native.Mathlib.Omega.{arith}
@@ -28,15 +30,15 @@ returns-3 c = let s = c .before .before .before .args in rw (day-early (yearAt (
 is-leap-requires : tie.Need-is-leap-requires
 is-leap-requires c κs = search needs
 
-month-days-requires : tie.Need-month-days-requires
-month-days-requires c κs = search needs
+length-of-month-requires : tie.Need-length-of-month-requires
+length-of-month-requires c κs = search needs
 
 -- the month's length, in the calendar's words
-length-is : (c : tie.After-month-days) → let s = c .before .before .before .before .before .args in
-    c .month-days .result ≡ monthLength (yearAt (s .years)) (s .month)
+length-is : (c : tie.After-length-of-month) → let s = c .before .before .before .before .before .args in
+    c .length-of-month .result ≡ monthLength (yearAt (s .years)) (s .month)
 length-is c =
     let s = c .before .before .before .before .before .args in
-    c .month-days .ensures ∙ ap (λ b. getD (months b) (s .month - 1) 0) (c .before .is-leap .ensures)
+    c .length-of-month .ensures ∙ ap (λ b. getD (months b) (s .month - 1) 0) (c .before .is-leap .ensures)
 
 returns-4 : tie.Need-returns-4
 returns-4 c =
@@ -87,7 +89,7 @@ day-in-year-spec =
     returns-2
     returns-3
     is-leap-requires
-    month-days-requires
+    length-of-month-requires
     returns-4
     days-before-month-requires
     add-number-at

@@ -3,7 +3,7 @@ use borrow.Author.Needs.{needs}
 use mathlib.Core.Path.{refl}
 use Prim.Native.Nat.{_-_, _/_, _<_, _≤_}
 use lib.ListN.{getD}
-use Rattle.gregorian.specs.Gregorian.{months, daysOfMonths}
+use Rattle.lengths.specs.Lengths.{months, daysOfMonths}
 use Rattle.gregorian.proofs.MonthSums.{guess-most, guess-low, guess-right, guess-early}
 use native.Mathlib.Omega.{arith}
 use Rattle.gregorian.proofs.months.month_of.Statement.{statement}
@@ -17,8 +17,8 @@ sub-left c =
     let s = c .before in
     omega (arith, c .days-before-month .ensures, guess-low (s .args .leap) (s .args .day) _ (s .pre) refl)
 
-month-days-requires : tie.Need-month-days-requires
-month-days-requires c κs = let s = c .before in guess-most (s .args .leap) (s .args .day) _ (s .pre) refl
+length-of-month-requires : tie.Need-length-of-month-requires
+length-of-month-requires c κs = search needs
 
 add-t9 : tie.Need-add-t9
 add-t9 c = search needs
@@ -27,17 +27,17 @@ returns : tie.Need-returns
 returns c =
     let s = c .before .before .before in
     let e = c .before .before .days-before-month .ensures in
-    let l : s .args .day - daysOfMonths (s .args .leap) (s .args .day / 32) < getD (months (s .args .leap)) (s .args .day / 32) 0 = omega (arith, e, c .before .month-days .ensures) in
+    let l : s .args .day - daysOfMonths (s .args .leap) (s .args .day / 32) < getD (months (s .args .leap)) (s .args .day / 32) 0 = omega (arith, e, c .before .length-of-month .ensures) in
     rw e (guess-right (s .args .leap) (s .args .day) _ (s .pre) refl l)
 
 returns-2 : tie.Need-returns-2
 returns-2 c =
     let s = c .before .before .before in
     let e = c .before .before .days-before-month .ensures in
-    let l : getD (months (s .args .leap)) (s .args .day / 32) 0 ≤ s .args .day - daysOfMonths (s .args .leap) (s .args .day / 32) = omega (arith, e, c .before .month-days .ensures) in
-    rw (e, c .before .month-days .ensures) (guess-early (s .args .leap) (s .args .day) _ (s .pre) refl l)
+    let l : getD (months (s .args .leap)) (s .args .day / 32) 0 ≤ s .args .day - daysOfMonths (s .args .leap) (s .args .day / 32) = omega (arith, e, c .before .length-of-month .ensures) in
+    rw (e, c .before .length-of-month .ensures) (guess-early (s .args .leap) (s .args .day) _ (s .pre) refl l)
 
 pub month-of-spec : {M : Type 1} → statement M
 month-of-spec =
     tie.close
-    (tie.spec days-before-month-requires sub-left month-days-requires add-t9 returns returns-2)
+    (tie.spec days-before-month-requires sub-left length-of-month-requires add-t9 returns returns-2)

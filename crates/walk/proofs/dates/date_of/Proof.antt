@@ -6,9 +6,9 @@ use native.Mathlib.Omega.{arith}
 use mir.Syntax.{w64}
 use Rattle.signed.proofs.Differences.{minus}
 use Rattle.signed.proofs.Machine.{Lowers, lowers}
-use Rattle.gregorian.specs.Gregorian.{leap, daysOfMonths, yearDays, yearAt}
+use Rattle.lengths.specs.Lengths.{leap, daysOfMonths, yearDays, yearAt}
+use Rattle.lengths.proofs.Months.{month-most}
 use Rattle.gregorian.specs.Parts.{InMonth}
-use Rattle.gregorian.proofs.MonthSums.{month-most}
 use Rattle.gregorian.proofs.Days.{raises-day, days-most, date-at, date-in-year}
 use Rattle.walk.proofs.dates.date_of.Statement.{statement}
 use Rattle.walk.proofs.dates.date_of.Tie as tie

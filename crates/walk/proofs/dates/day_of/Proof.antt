@@ -9,7 +9,8 @@ use lib.IntN.{subℕ}
 use mir.Syntax.{w32}
 use mir.Facts.{toZ-ofZ}
 use Rattle.signed.proofs.Machine.{Lowers, lowers}
-use Rattle.gregorian.specs.Gregorian.{daysOfMonths, yearsTo, daysOfYears, daysTo}
+use Rattle.lengths.specs.Lengths.{daysOfMonths}
+use Rattle.gregorian.specs.Gregorian.{yearsTo, daysOfYears, daysTo}
 use Rattle.gregorian.specs.Dates.{goodYear}
 use Rattle.gregorian.proofs.YearSums.{all-years}
 use Rattle.gregorian.proofs.Days.{years-most, leap-back, number}

@@ -11,9 +11,9 @@ use lib.IntN.{ℤ}
 use lib.ListN.{getD}
 use mir.Facts.{toZ-ofZ}
 use borrow.Author.Tests.{le-leb, lt-leb}
-use Rattle.gregorian.specs.Gregorian.{leap, months, monthLength}
+use Rattle.lengths.specs.Lengths.{leap, months, monthLength}
+use Rattle.lengths.proofs.Months.{no-month}
 use Rattle.gregorian.specs.Dates.{goodYear, goodMonthDay}
-use Rattle.gregorian.proofs.MonthSums.{no-month}
 use Rattle.gregorian.proofs.Days.{leap-back}
 use Rattle.gregorian.proofs.Tests.{year-early, year-late, year-good, month-early, day-early, day-late, month-day-good}
 use Rattle.walk.proofs.dates.is_date.Statement.{statement}

@@ -2,7 +2,7 @@
 use mathlib.Core.Path.{_≡_, ap}
 use Prim.Native.Nat.{_+_, _-_, _≤_}
 use native.Mathlib.Omega.{arith}
-use Rattle.gregorian.specs.Gregorian.{daysOfMonths}
+use Rattle.lengths.specs.Lengths.{daysOfMonths}
 use Rattle.gregorian.proofs.MonthSums.{no-months, months-step, months-most}
 use Rattle.walk.proofs.months.days_before_month.Statement.{statement}
 use Rattle.walk.proofs.months.days_before_month.Tie as tie

@@ -2,7 +2,7 @@
 use mathlib.Core.Path.{_≡_}
 use Prim.Native.Nat.{_+_, _-_}
 use native.Mathlib.Omega.{arith}
-use Rattle.gregorian.specs.Gregorian.{daysOfMonths}
+use Rattle.lengths.specs.Lengths.{daysOfMonths}
 use Rattle.gregorian.proofs.MonthSums.{no-months, months-step, fewer-months}
 use Rattle.walk.proofs.months.month_of.Statement.{statement}
 use Rattle.walk.proofs.months.month_of.Tie as tie

@@ -7,7 +7,7 @@ use native.Mathlib.Decide.{decLt}
 use lib.Dec.{eqb}
 use borrow.Author.Tests.{eqb-true, eqb-false, eq-eqb, ne-eqb}
 use Rattle.signed.proofs.Differences.{sub-ge, sub-lt}
-use Rattle.gregorian.specs.Gregorian.{divides, leap, yearAt}
+use Rattle.lengths.specs.Lengths.{divides, leap, yearAt}
 
 -- the rule, of the year n years after -10000
 abbrev pub leapN : ℕ → Bool

@@ -1,8 +1,8 @@
 -- `is_leap` meets its contract: by whether 100 divides the year. Assumes nothing.
 use mathlib.Core.Path.{sym}
-use Rattle.gregorian.proofs.Leap.{leap-century, leap-other}
-use Rattle.gregorian.proofs.years.is_leap.Statement.{statement}
-use Rattle.gregorian.proofs.years.is_leap.Tie as tie
+use Rattle.lengths.proofs.Leap.{leap-century, leap-other}
+use Rattle.lengths.proofs.is_leap.Statement.{statement}
+use Rattle.lengths.proofs.is_leap.Tie as tie
 
 returns : tie.Need-returns
 returns c = sym (leap-century (c .before .args .years) (c .if1 .taken))
