@@ -1,5 +1,6 @@
 //! record LIST FOLDER: makes the list LIST, writes its questions to FOLDER/stdin and the answers of the Rust's side to
-//! FOLDER/stdout, line for line, and says what it wrote.
+//! FOLDER/stdout, line for line, and says what it wrote. In the calendar's list each answer stands twice, since the program
+//! that replays it has two engines answer each question.
 
 mod calendar;
 mod composites;
@@ -24,13 +25,13 @@ fn main() {
         jiff_tests_its_window(),
         "this jiff takes nanoseconds outside its own window: no oracle for `refused 6`"
     );
-    let (seed, parts) = match list.as_str() {
-        "calendar" => (calendar::SEED, calendar::list()),
-        "words" => (words::SEED, words::list()),
-        "composites" => (composites::SEED, composites::list()),
+    let (seed, parts, times) = match list.as_str() {
+        "calendar" => (calendar::SEED, calendar::list(), 2),
+        "words" => (words::SEED, words::list(), 1),
+        "composites" => (composites::SEED, composites::list(), 1),
         _ => usage(),
     };
-    if let Err(error) = write(Path::new(folder), &parts) {
+    if let Err(error) = write(Path::new(folder), &parts, times) {
         eprintln!("record: {folder}: {error}");
         process::exit(1);
     }
@@ -49,12 +50,15 @@ fn usage() -> ! {
     process::exit(2)
 }
 
-fn write(folder: &Path, parts: &[Part]) -> io::Result<()> {
+/// Writes the questions, and each answer so many times.
+fn write(folder: &Path, parts: &[Part], times: usize) -> io::Result<()> {
     let mut questions = String::new();
     let mut answers = String::new();
     for line in lines_of(parts) {
         append(&mut questions, &line.question);
-        append(&mut answers, &line.answer);
+        for _ in 0..times {
+            append(&mut answers, &line.answer);
+        }
     }
     fs::create_dir_all(folder)?;
     fs::write(folder.join("stdin"), questions)?;

@@ -1,12 +1,11 @@
 -- The leap rule of a year that is counted from -10000: 400 divides 10000, so it reads the same.
-use mathlib.Core.Path.{_≡_, refl, ap, _∙_}
+use mathlib.Core.Path.{_≡_, refl, _∙_}
 use mathlib.Core.Bool.{Bool, true, false, not, _&&_, _||_}
 use Prim.Native.Nat.{ℕ, zero, suc, _+_, _-_, _*_, _/_, _%_, _<_, _≤_}
 use native.Mathlib.Omega.{arith}
 use native.Mathlib.Decide.{decLt}
 use lib.Dec.{eqb}
-use borrow.Author.Tests.{eqb-true, eqb-false, eq-eqb, ne-eqb}
-use Rattle.signed.proofs.Differences.{sub-ge, sub-lt}
+use borrow.Author.Tests.{lt-ltb, le-ltb, eqb-true, eqb-false, eq-eqb, ne-eqb}
 use Rattle.lengths.specs.Lengths.{divides, leap, yearAt}
 
 -- the rule, of the year n years after -10000
@@ -28,8 +27,8 @@ module _ (d : ℕ) (low : (n : ℕ) → n < 10000 → (suc (10000 - suc n) % d �
   divides-at n = go (decLt n 10000)
     where
       go : Dec (n < 10000) → divides d (yearAt n) ≡ eqb (n % d) 0
-      go (yes h) = ap (divides d) (sub-lt n 10000 h) ∙ same-zero (suc (10000 - suc n) % d) (n % d) (low n h .0) (low n h .1)
-      go (no h) = let k : 10000 ≤ n = omega arith in ap (divides d) (sub-ge n 10000 k) ∙ same-zero ((n - 10000) % d) (n % d) (high n k .0) (high n k .1)
+      go (yes h) = rw (lt-ltb n 10000 h) (same-zero (suc (10000 - suc n) % d) (n % d) (low n h .0) (low n h .1))
+      go (no h) = let k : 10000 ≤ n = omega arith in rw (le-ltb n 10000 k) (same-zero ((n - 10000) % d) (n % d) (high n k .0) (high n k .1))
 
 divides-4 : (n : ℕ) → divides 4 (yearAt n) ≡ eqb (n % 4) 0
 divides-4 = divides-at 4 (λ n h. omega arith) (λ n h. omega arith)

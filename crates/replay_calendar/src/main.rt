@@ -1,10 +1,9 @@
-// Replays a list of calendar questions: a line of standard input to a line of standard output.
+// Replays a list of calendar questions: a line of standard input to two lines of standard output, one of each engine.
 //
 //   c YEAR MONTH DAY HOUR MINUTE SECOND   the seconds of a civil time, or `refused N`
 //   s SECONDS                             the civil time of some seconds, in the same six numbers, or `refused N`
 //
-// Both engines of the calendar are asked, and where they do not answer the same the line is `engines differ`. A line
-// that asks neither is `bad line`, and so is one of more than 64 bytes. The last line may lack its LF.
+// A line that asks neither is `bad line`, and so is one of more than 64 bytes. The last line may lack its LF.
 //
 // Nothing is proved here of what is written: the program is safe, ends, and is run on a list of recorded answers.
 mod answers;
