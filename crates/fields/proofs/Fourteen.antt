@@ -1,7 +1,9 @@
 -- The fourteen descriptions keep what reading asks.
+use mathlib.Core.Path.{_≡_, refl}
+use mathlib.Core.Bool.{Bool, true, false}
 use native.Mathlib.Omega.{arith}
 use Rattle.fields.specs.Layouts.{gsm, layoutFor}
-use Rattle.fields.specs.Parts.{Sound}
+use Rattle.fields.specs.Parts.{Sound, pairs, pairLayout}
 use Rattle.fields.specs.declared.layouts.Digits.the-variants.{SemiOctets}
 use Rattle.fields.specs.declared.kinds.Kind.{Kind}
 use Rattle.fields.specs.declared.kinds.Kind.the-variants.{FatDos, ExFat, Dttm, BitDate, BitDec, Bcd, Moto, Symantec, Dvr, Ns40, Ns40Le, LogTime, SemiOctet}
@@ -23,3 +25,8 @@ sound SemiOctet = omega arith
 
 pub gsm-sound : Sound SemiOctets gsm
 gsm-sound = omega arith
+
+-- the two layouts of pairs, by the order of their digits
+pub pair-sound : (b : Bool) → Sound (pairs b) (pairLayout b) × (pairLayout b .digits ≡ pairs b)
+pair-sound false = (omega arith, refl)
+pair-sound true = (omega arith, refl)

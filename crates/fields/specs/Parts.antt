@@ -6,16 +6,21 @@ use lib.Dec.{ltb}
 use Rattle.refusal.specs.Answers.{Answer, gives, refused}
 use Rattle.civil.specs.declared.times.Civil as civil
 use Rattle.places.specs.Orders.{ordered}
+use Rattle.fields.specs.Layouts.{bcd, semiOctet}
 use Rattle.fields.specs.Reading.{fieldsIn}
 use Rattle.fields.specs.declared.layouts.Field.{Field}
 use Rattle.fields.specs.declared.layouts.Layout.{Layout}
 use Rattle.fields.specs.declared.layouts.Digits.{Digits}
 use Rattle.fields.specs.declared.layouts.Digits.the-variants.{Bits, Pairs, SwappedPairs, SemiOctets}
 
--- the two kinds of pairs
+-- the two kinds of pairs, and their layouts
 abbrev pub pairs : Bool → Digits
 pairs false = Pairs
 pairs true = SwappedPairs
+
+abbrev pub pairLayout : Bool → Layout
+pairLayout false = bcd
+pairLayout true = semiOctet
 
 -- the fields in a word's bits, which are in order, where they are in range; and those of a word's 64 bits
 abbrev pub inRange : Layout → ℕ → Answer civil.Civil

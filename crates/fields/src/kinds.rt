@@ -3,7 +3,6 @@ ghost use mathlib.Core.Path.{_≡_};
 ghost use Rattle.civil.specs.Answers.{readFields};
 ghost use Rattle.fields.specs.Layouts.{layoutFor, gsm};
 ghost use Rattle.fields.specs.Parts.{readBy};
-use crate::layouts::BCD;
 use crate::layouts::BIT_DATE;
 use crate::layouts::BIT_DEC;
 use crate::layouts::DTTM;
@@ -14,7 +13,6 @@ use crate::layouts::LOG_TIME;
 use crate::layouts::MOTO;
 use crate::layouts::NS40;
 use crate::layouts::NS40_LE;
-use crate::layouts::SEMI_OCTET;
 use crate::layouts::SYMANTEC;
 use crate::read::read_bits;
 use crate::read::read_pairs;
@@ -51,14 +49,14 @@ pub fn read_kind(kind: Kind, bits: u64) -> Fields
         Kind::Dttm => read_bits(DTTM, bits),
         Kind::BitDate => read_bits(BIT_DATE, reverse(bits)),
         Kind::BitDec => read_bits(BIT_DEC, bits),
-        Kind::Bcd => read_pairs(BCD, false, bits),
+        Kind::Bcd => read_pairs(false, bits),
         Kind::Moto => read_bits(MOTO, bits),
         Kind::Symantec => read_bits(SYMANTEC, bits),
         Kind::Dvr => read_bits(DVR, bits),
         Kind::Ns40 => read_bits(NS40, bits),
         Kind::Ns40Le => read_bits(NS40_LE, swap_year(bits)),
         Kind::LogTime => read_bits(LOG_TIME, bits),
-        Kind::SemiOctet => read_pairs(SEMI_OCTET, true, bits),
+        Kind::SemiOctet => read_pairs(true, bits),
     }
 }
 

@@ -3,10 +3,11 @@ ghost use mathlib.Core.Path.{_≡_};
 ghost use Prim.Native.Nat.{_<_, _^_};
 ghost use Rattle.civil.specs.Answers.{readFields};
 ghost use Rattle.fields.specs.Reading.{valueOf, stored, fieldsIn};
-ghost use Rattle.fields.specs.Parts.{Readable, Sound, pairs, inRange};
+ghost use Rattle.fields.specs.Parts.{Readable, Sound, pairs, pairLayout, inRange};
 use crate::layouts::Digits;
 use crate::layouts::Field;
 use crate::layouts::Layout;
+use crate::layouts::pair_layout;
 use crate::stored::cut;
 use crate::stored::pair;
 use civil::Civil;
@@ -113,11 +114,10 @@ pub fn read_bits(l: Layout, p: u64) -> Fields
     Fields::At(bits_in(l, p))
 }
 
-pub fn read_pairs(l: Layout, swapped: bool, p: u64) -> Fields
-    requires { ⌜ Sound (pairs swapped) l ⌝ }
-    requires { ⌜ l .digits ≡ pairs swapped ⌝ }
-    ensures { λ r. ⌜ readFields r ≡ inRange l p ⌝ }
+pub fn read_pairs(swapped: bool, p: u64) -> Fields
+    ensures { λ r. ⌜ readFields r ≡ inRange (pairLayout swapped) p ⌝ }
 {
+    let l = pair_layout(swapped);
     if l.words <= p {
         return Fields::Refused(Refusal {
             number: Refusal::RANGE,

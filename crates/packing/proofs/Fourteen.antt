@@ -1,9 +1,14 @@
 -- The fourteen descriptions keep what writing asks.
+use mathlib.Core.Bool.{Bool, true, false}
 use native.Mathlib.Omega.{arith}
 use Rattle.fields.specs.Layouts.{gsm, layoutFor}
+use Rattle.fields.specs.Parts.{pairLayout}
 use Rattle.fields.specs.declared.kinds.Kind.{Kind}
 use Rattle.fields.specs.declared.kinds.Kind.the-variants.{FatDos, ExFat, Dttm, BitDate, BitDec, Bcd, Moto, Symantec, Dvr, Ns40, Ns40Le, LogTime, SemiOctet}
+use Rattle.packing.specs.Writing.{layoutIn}
 use Rattle.packing.specs.Parts.{Writable}
+use Rattle.packing.specs.declared.words.Shape.{Shape}
+use Rattle.packing.specs.declared.words.Shape.the-variants.{Civil, Gsm}
 
 pub writable : (k : Kind) → Writable (layoutFor k)
 writable FatDos = omega arith
@@ -22,3 +27,11 @@ writable SemiOctet = omega arith
 
 pub gsm-writable : Writable gsm
 gsm-writable = omega arith
+
+pub pair-writable : (b : Bool) → Writable (pairLayout b)
+pair-writable false = writable Bcd
+pair-writable true = writable SemiOctet
+
+pub shape-writable : (s : Shape) → Writable (layoutIn s)
+shape-writable (Civil k) = writable k
+shape-writable Gsm = gsm-writable

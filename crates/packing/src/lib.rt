@@ -4,5 +4,5 @@
 mod words;
 mod write;
 
-pub use words::word_of_gsm;
-pub use words::word_of_kind;
+pub use words::Shape;
+pub use words::word_of;

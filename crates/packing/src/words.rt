@@ -1,11 +1,11 @@
-// The word of some seconds, by the kind of its layout.
+// The word of some seconds, by the layout.
 ghost use mathlib.Core.Path.{_≡_};
 ghost use Rattle.instant.specs.Answers.{readEncoded};
 ghost use Rattle.civil.specs.Answers.{fieldsFor};
 ghost use Rattle.civil.specs.Promises.{Ranged};
 ghost use Rattle.places.specs.Orders.{reversed, yearSwapped};
-ghost use Rattle.fields.specs.Layouts.{layoutFor, gsm};
-ghost use Rattle.packing.specs.Writing.{writeFields};
+ghost use Rattle.fields.specs.Layouts.{layoutFor};
+ghost use Rattle.packing.specs.Writing.{layoutIn, writeFields};
 ghost use Rattle.packing.specs.Answers.{readPacked};
 ghost use Rattle.packing.specs.Parts.{writeBy, reordered, asWord, InWord};
 use crate::write::Packed;
@@ -15,7 +15,6 @@ use crate::write::write_semi_octets;
 use civil::Civil;
 use civil::Fields;
 use civil::fields_of;
-use fields::BCD;
 use fields::BIT_DATE;
 use fields::BIT_DEC;
 use fields::DTTM;
@@ -27,12 +26,17 @@ use fields::LOG_TIME;
 use fields::MOTO;
 use fields::NS40;
 use fields::NS40_LE;
-use fields::SEMI_OCTET;
 use fields::SYMANTEC;
 use instant::Encoded;
 use places::reverse;
 use places::swap_year;
 use refusal::Refusal;
+
+// The layouts 1 to 14: those that have civil fields and nothing else, and Gsm, which is written with zone 0.
+pub enum Shape {
+    Civil(Kind),
+    Gsm,
+}
 
 // Packed bits in another order of bytes.
 fn reverse_packed(packed: Packed) -> Packed
@@ -65,14 +69,25 @@ fn write_kind(kind: Kind, c: Civil) -> Packed
         Kind::Dttm => write_bits(DTTM, c),
         Kind::BitDate => reverse_packed(write_bits(BIT_DATE, c)),
         Kind::BitDec => write_bits(BIT_DEC, c),
-        Kind::Bcd => write_pairs(BCD, false, c),
+        Kind::Bcd => write_pairs(false, c),
         Kind::Moto => write_bits(MOTO, c),
         Kind::Symantec => write_bits(SYMANTEC, c),
         Kind::Dvr => write_bits(DVR, c),
         Kind::Ns40 => write_bits(NS40, c),
         Kind::Ns40Le => swap_packed_year(write_bits(NS40_LE, c)),
         Kind::LogTime => write_bits(LOG_TIME, c),
-        Kind::SemiOctet => write_pairs(SEMI_OCTET, true, c),
+        Kind::SemiOctet => write_pairs(true, c),
+    }
+}
+
+// The same by a layout that has fields.
+fn write_shape(shape: Shape, c: Civil) -> Packed
+    requires { ⌜ Ranged c ⌝ }
+    ensures { λ r. ⌜ readPacked r ≡ writeBy (layoutIn shape) c ⌝ }
+{
+    match shape {
+        Shape::Civil(kind) => write_kind(kind, c),
+        Shape::Gsm => write_semi_octets(GSM, c),
     }
 }
 
@@ -90,9 +105,9 @@ fn word_in(packed: Packed) -> Encoded
     }
 }
 
-// The word of some seconds by the layout of a kind.
-pub fn word_of_kind(kind: Kind, seconds: i64) -> Encoded
-    ensures { λ r. ⌜ readEncoded r ≡ writeFields (layoutFor kind) (fieldsFor seconds) ⌝ }
+// The word of some seconds by a layout that has fields.
+pub fn word_of(shape: Shape, seconds: i64) -> Encoded
+    ensures { λ r. ⌜ readEncoded r ≡ writeFields (layoutIn shape) (fieldsFor seconds) ⌝ }
 {
     let found = fields_of(seconds);
     let Fields::At(c) = found else {
@@ -100,18 +115,5 @@ pub fn word_of_kind(kind: Kind, seconds: i64) -> Encoded
             number: Refusal::WINDOW,
         });
     };
-    word_in(write_kind(kind, c))
-}
-
-// The Gsm word of some seconds, with zone 0.
-pub fn word_of_gsm(seconds: i64) -> Encoded
-    ensures { λ r. ⌜ readEncoded r ≡ writeFields gsm (fieldsFor seconds) ⌝ }
-{
-    let found = fields_of(seconds);
-    let Fields::At(c) = found else {
-        return Encoded::Refused(Refusal {
-            number: Refusal::WINDOW,
-        });
-    };
-    word_in(write_semi_octets(GSM, c))
+    word_in(write_shape(shape, c))
 }

@@ -2,7 +2,7 @@
 ghost use mathlib.Core.Path.{_≡_};
 ghost use Prim.Native.Nat.{_+_, _*_, _^_, _≤_, _<_};
 ghost use Rattle.civil.specs.Promises.{Ranged};
-ghost use Rattle.fields.specs.Parts.{pairs};
+ghost use Rattle.fields.specs.Parts.{pairs, pairLayout};
 ghost use Rattle.packing.specs.Writing.{steps, placed, packed};
 ghost use Rattle.packing.specs.Answers.{readPacked};
 ghost use Rattle.packing.specs.Parts.{Ready, Packing, Writable, inYears, writeBits};
@@ -10,6 +10,7 @@ use civil::Civil;
 use fields::Digits;
 use fields::Field;
 use fields::Layout;
+use fields::pair_layout;
 use places::hundreds;
 use refusal::Refusal;
 use signed::to_bits;
@@ -127,11 +128,11 @@ pub fn write_bits(l: Layout, c: Civil) -> Packed
     })
 }
 
-pub fn write_pairs(l: Layout, swapped: bool, c: Civil) -> Packed
-    requires { ⌜ (Writable l) × (Ranged c) ⌝ }
-    requires { ⌜ l .digits ≡ pairs swapped ⌝ }
-    ensures { λ r. ⌜ readPacked r ≡ writeBits l c ⌝ }
+pub fn write_pairs(swapped: bool, c: Civil) -> Packed
+    requires { ⌜ Ranged c ⌝ }
+    ensures { λ r. ⌜ readPacked r ≡ writeBits (pairLayout swapped) c ⌝ }
 {
+    let l = pair_layout(swapped);
     let y = to_bits(c.year);
     if writes_year(l, y) {
         return Packed::Bits(pack_pairs(l, swapped, y, c));

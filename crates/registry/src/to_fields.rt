@@ -2,25 +2,24 @@
 ghost use mathlib.Core.Path.{_≡_};
 ghost use mathlib.Core.Bool.{true};
 ghost use Rattle.instant.specs.Answers.{readEncoded};
-ghost use Rattle.civil.specs.Answers.{fieldsFor};
-ghost use Rattle.packing.specs.Writing.{writeFields};
+ghost use Rattle.packing.specs.Writing.{layoutIn};
 ghost use Rattle.registry.specs.Words.{fieldsEncode};
 ghost use Rattle.registry.specs.Parts.{fielded, layoutOf};
 use crate::rules::Rule;
 use instant::Encoded;
 use instant::Instant;
-use packing::word_of_gsm;
-use packing::word_of_kind;
+use packing::Shape;
+use packing::word_of;
 use refusal::Refusal;
 
-// The word of some seconds by a rule that has fields: Gsm, where it is no other.
-fn write_fields(rule: Rule, seconds: i64) -> Encoded
+// The layout of a rule that has fields: Gsm, where it is no other.
+fn shape_of(rule: Rule) -> Shape
     requires { ⌜ fielded rule ≡ true ⌝ }
-    ensures { λ r. ⌜ readEncoded r ≡ writeFields (layoutOf rule) (fieldsFor seconds) ⌝ }
+    ensures { λ r. ⌜ layoutIn r ≡ layoutOf rule ⌝ }
 {
     match rule {
-        Rule::Civil(kind) => word_of_kind(kind, seconds),
-        _ => word_of_gsm(seconds),
+        Rule::Civil(kind) => Shape::Civil(kind),
+        _ => Shape::Gsm,
     }
 }
 
@@ -34,5 +33,5 @@ pub fn encode_fields(rule: Rule, t: Instant) -> Encoded
             number: Refusal::NANOS,
         });
     }
-    write_fields(rule, t.seconds)
+    word_of(shape_of(rule), t.seconds)
 }

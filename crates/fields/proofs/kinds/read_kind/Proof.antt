@@ -45,7 +45,7 @@ enum-told-6 : tie.Need-enum-told-6
 enum-told-6 c = search needs
 
 read-pairs-requires : tie.Need-read-pairs-requires
-read-pairs-requires c κs = (omega arith, refl)
+read-pairs-requires c κs = search needs
 
 enum-told-7 : tie.Need-enum-told-7
 enum-told-7 c = search needs
@@ -90,7 +90,7 @@ enum-told-13 : tie.Need-enum-told-13
 enum-told-13 c = search needs
 
 read-pairs-requires-2 : tie.Need-read-pairs-requires-2
-read-pairs-requires-2 c κs = (omega arith, refl)
+read-pairs-requires-2 c κs = search needs
 
 returns : tie.Need-returns
 unfolding ordered

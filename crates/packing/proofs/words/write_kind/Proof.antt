@@ -7,7 +7,7 @@ use Rattle.civil.specs.declared.times.Civil.{Civil}
 use Rattle.places.specs.Orders.{reversed, yearSwapped}
 use Rattle.fields.specs.Layouts.{layoutFor, bitDate, ns40Le}
 use Rattle.fields.specs.declared.kinds.Kind.{Kind}
-use Rattle.fields.specs.declared.kinds.Kind.the-variants.{FatDos, ExFat, Dttm, BitDate, BitDec, Bcd, Moto, Symantec, Dvr, Ns40, Ns40Le, LogTime, SemiOctet}
+use Rattle.fields.specs.declared.kinds.Kind.the-variants.{FatDos, ExFat, Dttm, BitDate, BitDec, Moto, Symantec, Dvr, Ns40, Ns40Le, LogTime}
 use Rattle.packing.specs.Parts.{reordered, writeBits, writeBy}
 use Rattle.packing.proofs.Fourteen.{writable}
 use Rattle.packing.proofs.Packing.{as-they-are, as-reversed, as-year-swapped}
@@ -55,7 +55,7 @@ enum-told-6 : tie.Need-enum-told-6
 enum-told-6 c = search needs
 
 write-pairs-requires : tie.Need-write-pairs-requires
-write-pairs-requires c κs = ((writable Bcd, c .before .before .pre), refl)
+write-pairs-requires c κs = search needs
 
 enum-told-7 : tie.Need-enum-told-7
 enum-told-7 c = search needs
@@ -100,7 +100,7 @@ enum-told-13 : tie.Need-enum-told-13
 enum-told-13 c = search needs
 
 write-pairs-requires-2 : tie.Need-write-pairs-requires-2
-write-pairs-requires-2 c κs = ((writable SemiOctet, c .before .before .pre), refl)
+write-pairs-requires-2 c κs = search needs
 
 returns : tie.Need-returns
 returns c = by-kind (c .before .before .before .args .c) (c .before .enum-told .given .1) (c .write-bits .ensures ∙ sym (as-they-are _))
