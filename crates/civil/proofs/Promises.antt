@@ -23,7 +23,7 @@ use Rattle.gregorian.proofs.Trip.{its-year, its-month-low, its-month-high, its-
 use Rattle.gregorian.proofs.Promises.{day-of-its-date, date-of-its-day}
 use Rattle.civil.specs.Times.{inWindow, goodTime, good, secondsFrom, secondsOf, fieldsAt}
 use Rattle.civil.specs.Answers.{readSeconds, readFields, secondsFor, fieldsFor}
-use Rattle.civil.specs.Promises.{SecondsOfTheirFields, FieldsOfTheirSeconds, OneTime, OneAnswer, FieldRanges, WindowSize, LinearSecond, FlooredSeconds, Epochs, withSecond}
+use Rattle.civil.specs.Promises.{SecondsOfTheirFields, FieldsOfTheirSeconds, OneTime, OneAnswer, EnginesAgree, FieldRanges, WindowSize, LinearSecond, FlooredSeconds, Epochs, withSecond}
 use Rattle.civil.specs.declared.times.Civil.{Civil}
 use Rattle.civil.specs.declared.times.Seconds.{Seconds}
 use Rattle.civil.specs.declared.times.Seconds.the-variants as seconds
@@ -104,7 +104,10 @@ told-fields (fields.Refused m) (fields.At t) e = cc
 told-fields (fields.Refused m) (fields.Refused n) e = ap fields.Refused (same-refusal m n (refused (m .number)) refl e)
 
 pub one-answer : OneAnswer
-one-answer = (λ c a b p q. only readSeconds told-seconds (secondsFor c) a b p q, λ s a b p q. only readFields told-fields (fieldsFor s) a b p q)
+one-answer = (λ x a b p q. only readSeconds told-seconds x a b p q, λ x a b p q. only readFields told-fields x a b p q)
+
+pub engines-agree : EnginesAgree
+engines-agree = (λ c a b p q. one-answer .0 (secondsFor c) a b p q, λ s a b p q. one-answer .1 (fieldsFor s) a b p q)
 
 -- ---- the second
 

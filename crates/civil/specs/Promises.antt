@@ -5,6 +5,7 @@ use Prim.Native.Nat.{ℕ, _+_, _*_, _/_, _≤_, _<_, _^_}
 use lib.Dec.{ltb}
 use lib.IntN.{ℤ, pos, negℤ, _+ℤ_, _*ℤ_}
 use lib.Signed.{mag, ltZ}
+use Rattle.refusal.specs.Answers.{Answer}
 use Rattle.signed.specs.Floor.{floorDiv}
 use Rattle.instant.specs.Instants.{decides}
 use Rattle.civil.specs.Times.{inWindow, good, secondsOf, fieldsAt}
@@ -29,10 +30,16 @@ OneTime = (a b : Civil) → good a ≡ true → good b ≡ true → secondsOf a 
 
 -- ---- one answer
 
--- any two answers that a contract allows are equal: so the second engine, `walk`, agrees with this one on every set of
--- fields and on every number of seconds, refusals too
+-- whatever a definition says, all that a contract allows as its reading is equal
 abbrev pub OneAnswer : Type 0
 OneAnswer =
+    ((x : Answer ℤ) (a b : Seconds) → readSeconds a ≡ x → readSeconds b ≡ x → a ≡ b)
+    × ((x : Answer Civil) (a b : Fields) → readFields a ≡ x → readFields b ≡ x → a ≡ b)
+
+-- so two engines that meet the contracts agree on every set of fields and on every number of seconds, refusals too: this
+-- one and `walk` do
+abbrev pub EnginesAgree : Type 0
+EnginesAgree =
     ((c : Civil) (a b : Seconds) → readSeconds a ≡ secondsFor c → readSeconds b ≡ secondsFor c → a ≡ b)
     × ((s : ℤ) (a b : Fields) → readFields a ≡ fieldsFor s → readFields b ≡ fieldsFor s → a ≡ b)
 

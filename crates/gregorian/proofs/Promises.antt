@@ -4,12 +4,19 @@ use mathlib.Core.Bool.{Bool, true, false}
 use Prim.Native.Nat.{ℕ, _+_, _-_}
 use native.Mathlib.Omega.{arith}
 use lib.IntN.{ℤ, pos, subℕ, _+ℤ_}
+use Rattle.refusal.specs.Answers.{refused}
+use Rattle.refusal.proofs.Answers.{only, same-refusal}
 use Rattle.signed.proofs.Differences.{minus, plus, lower, raised, raised-low, raised-back, low, high}
 use Rattle.signed.proofs.Tests.{le-leZ}
 use Rattle.lengths.specs.Lengths.{leap, monthLength, daysOfMonths, yearDays, yearAt}
 use Rattle.gregorian.specs.Gregorian.{yearsTo, daysTo, dayNumber}
 use Rattle.gregorian.specs.Dates.{dateIn, dateAt}
-use Rattle.gregorian.specs.Promises.{DayZero, NextDay, NextMonth, NextYear, YearLengths, DayOfItsDate, DateOfItsDay}
+use Rattle.gregorian.specs.Promises.{DayZero, NextDay, NextMonth, NextYear, YearLengths, DayOfItsDate, DateOfItsDay, OneAnswer}
+use Rattle.gregorian.specs.Answers.{readDay, readDated}
+use Rattle.gregorian.specs.declared.dates.Day.{Day}
+use Rattle.gregorian.specs.declared.dates.Day.the-variants as day
+use Rattle.gregorian.specs.declared.dates.Dated.{Dated}
+use Rattle.gregorian.specs.declared.dates.Dated.the-variants as dated
 use Rattle.gregorian.proofs.YearSums.{closed-is, years-step, all-years, row-days}
 use Rattle.gregorian.proofs.MonthSums.{no-months, months-step}
 use Rattle.gregorian.proofs.Days.{year-back, epoch, number, days-in-year, first-day, last-day, day-low, days-most}
@@ -77,3 +84,20 @@ date-of-its-day y m d g =
       rw (first-day, last-day, e, le-leZ (low 4371586 t 4371953 (omega (arith, closed-is 1, its-days-low y m d g)))) (le-leZ (high 2932896 t 4371953 (omega (arith, all-years, its-days-high y m d g)))),
       rw (epoch, e, raised-back 4371953 t) (date-trip y m d g),
     )
+
+-- ---- one answer
+
+told-day : (a b : Day) → readDay a ≡ readDay b → a ≡ b
+told-day (day.At m) (day.At n) e = ap day.At cc
+told-day (day.At m) (day.Refused w) e = cc
+told-day (day.Refused v) (day.At n) e = cc
+told-day (day.Refused v) (day.Refused w) e = ap day.Refused (same-refusal v w (refused (v .number)) refl e)
+
+told-dated : (a b : Dated) → readDated a ≡ readDated b → a ≡ b
+told-dated (dated.At c) (dated.At d) e = ap dated.At cc
+told-dated (dated.At c) (dated.Refused w) e = cc
+told-dated (dated.Refused v) (dated.At d) e = cc
+told-dated (dated.Refused v) (dated.Refused w) e = ap dated.Refused (same-refusal v w (refused (v .number)) refl e)
+
+pub one-answer : OneAnswer
+one-answer = (λ x a b p q. only readDay told-day x a b p q, λ x a b p q. only readDated told-dated x a b p q)

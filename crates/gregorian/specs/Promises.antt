@@ -3,9 +3,14 @@ use mathlib.Core.Path.{_≡_}
 use mathlib.Core.Bool.{true}
 use Prim.Native.Nat.{ℕ, _+_, _≤_}
 use lib.IntN.{ℤ, pos, _+ℤ_}
+use Rattle.refusal.specs.Answers.{Answer}
 use Rattle.lengths.specs.Lengths.{leap, monthLength, yearDays}
 use Rattle.gregorian.specs.Gregorian.{dayNumber}
 use Rattle.gregorian.specs.Dates.{goodYear, goodDate, goodDayNumber, dateAt}
+use Rattle.gregorian.specs.Answers.{readDay, readDated}
+use Rattle.gregorian.specs.declared.dates.Date.{Date}
+use Rattle.gregorian.specs.declared.dates.Day.{Day}
+use Rattle.gregorian.specs.declared.dates.Dated.{Dated}
 
 -- ---- the definition of the day number, at sight
 
@@ -40,3 +45,11 @@ DayOfItsDate = (z : ℤ) → goodDayNumber z ≡ true →
 abbrev pub DateOfItsDay : Type 0
 DateOfItsDay = (y : ℤ) (m d : ℕ) → goodDate y m d ≡ true →
     (goodDayNumber (dayNumber y m d) ≡ true) × (dateAt (dayNumber y m d) ≡ record { year = y; month = m; day = d })
+
+-- ---- one answer
+
+-- whatever a definition says, all that a contract allows as its reading is equal
+abbrev pub OneAnswer : Type 0
+OneAnswer =
+    ((x : Answer ℤ) (a b : Day) → readDay a ≡ x → readDay b ≡ x → a ≡ b)
+    × ((x : Answer Date) (a b : Dated) → readDated a ≡ x → readDated b ≡ x → a ≡ b)

@@ -3,11 +3,6 @@ use mathlib.Core.Path.{_≡_, refl, ap}
 use native.Mathlib.Omega.{arith}
 use Rattle.refusal.specs.Answers.{refused}
 use Rattle.refusal.proofs.Answers.{only, same-refusal}
-use Rattle.instant.specs.Answers.{readEncoded, readDecoded}
-use Rattle.instant.specs.declared.answers.Encoded.{Encoded}
-use Rattle.instant.specs.declared.answers.Encoded.the-variants as encoded
-use Rattle.instant.specs.declared.answers.Decoded.{Decoded}
-use Rattle.instant.specs.declared.answers.Decoded.the-variants as decoded
 use Rattle.places.specs.Orders.{reversed, yearSwapped}
 use Rattle.registry.specs.Answers.{readPicked}
 use Rattle.registry.specs.Promises.{Ranges, NearTick, OneAnswer}
@@ -33,21 +28,5 @@ told-picked (picked.One r) (picked.Refused n) e = cc
 told-picked (picked.Refused m) (picked.One s) e = cc
 told-picked (picked.Refused m) (picked.Refused n) e = ap picked.Refused (same-refusal m n (refused (m .number)) refl e)
 
-told-decoded : (a b : Decoded) → readDecoded a ≡ readDecoded b → a ≡ b
-told-decoded (decoded.At s) (decoded.At t) e = ap decoded.At cc
-told-decoded (decoded.At s) (decoded.Refused n) e = cc
-told-decoded (decoded.Refused m) (decoded.At t) e = cc
-told-decoded (decoded.Refused m) (decoded.Refused n) e = ap decoded.Refused (same-refusal m n (refused (m .number)) refl e)
-
-told-encoded : (a b : Encoded) → readEncoded a ≡ readEncoded b → a ≡ b
-told-encoded (encoded.Word s) (encoded.Word t) e = ap encoded.Word cc
-told-encoded (encoded.Word s) (encoded.Refused n) e = cc
-told-encoded (encoded.Refused m) (encoded.Word t) e = cc
-told-encoded (encoded.Refused m) (encoded.Refused n) e = ap encoded.Refused (same-refusal m n (refused (m .number)) refl e)
-
 pub one-answer : OneAnswer
-one-answer = (
-  λ x a b p q. only readPicked told-picked x a b p q,
-  λ x a b p q. only readDecoded told-decoded x a b p q,
-  λ x a b p q. only readEncoded told-encoded x a b p q,
-)
+one-answer x a b p q = only readPicked told-picked x a b p q

@@ -2,14 +2,10 @@
 use mathlib.Core.Path.{_≡_}
 use mathlib.Core.Logic.{_↔_}
 use Prim.Native.Nat.{ℕ, _+_, _*_, _/_, _^_, _≤_, _<_}
-use lib.IntN.{ℤ, negsuc}
+use lib.IntN.{negsuc}
 use mir.Syntax.{w64}
 use mir.Val.{SFits, ofZ}
 use Rattle.refusal.specs.Answers.{Answer}
-use Rattle.instant.specs.declared.instants.Instant.{Instant}
-use Rattle.instant.specs.Answers.{readEncoded, readDecoded}
-use Rattle.instant.specs.declared.answers.Encoded.{Encoded}
-use Rattle.instant.specs.declared.answers.Decoded.{Decoded}
 use Rattle.places.specs.Orders.{reversed, yearSwapped}
 use Rattle.counts.specs.Sql.{nearestTick}
 use Rattle.registry.specs.Answers.{readPicked}
@@ -31,10 +27,7 @@ Ranges =
 abbrev pub NearTick : Type 0
 NearTick = (r : ℕ) → (3 * r ≤ 10000000 * nearestTick r + 5000000) × (10000000 * nearestTick r ≤ 3 * r + 5000000)
 
--- one answer: whatever a definition says, all that a contract allows as its reading is equal. So it is for pick, for
--- decode_by and decode, and for encode_by and encode
+-- one answer: whatever the definition says, all that the contract of `pick` allows as its reading is equal. The other calls
+-- answer what `instant` has, and so does its promise
 abbrev pub OneAnswer : Type 0
-OneAnswer =
-    ((x : Answer Rule) (a b : Picked) → readPicked a ≡ x → readPicked b ≡ x → a ≡ b)
-    × ((x : Answer Instant) (a b : Decoded) → readDecoded a ≡ x → readDecoded b ≡ x → a ≡ b)
-    × ((x : Answer ℤ) (a b : Encoded) → readEncoded a ≡ x → readEncoded b ≡ x → a ≡ b)
+OneAnswer = (x : Answer Rule) (a b : Picked) → readPicked a ≡ x → readPicked b ≡ x → a ≡ b
