@@ -1,10 +1,10 @@
 // The composites in two numbers. A number that its call's type can't hold asks nothing.
 use crate::answers::say_bad_line;
 use crate::answers::say_decoded;
-use compose::filetime_hilo;
-use compose::unix_sec_nsec;
-use compose::vmsd;
 use decimal::Number;
+use halves::filetime_hilo;
+use halves::unix_sec_nsec;
+use halves::vmsd;
 use signed::to_bits;
 
 // What a number is in 32 bits, unsigned and signed.

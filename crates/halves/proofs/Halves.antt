@@ -12,7 +12,7 @@ use borrow.Author.Tests.{lt-ltb, le-ltb, ltb-true, ltb-false}
 use Rattle.refusal.specs.Answers.{gives, refused}
 use Rattle.signed.proofs.Differences.{minus, neg-plus, sub-ge, sub-lt}
 use Rattle.signed.proofs.Sizes.{times, times-plus}
-use Rattle.compose.specs.Pairs.{ticksOf, filetimeHilo, unixSecNsec}
+use Rattle.halves.specs.Halves.{ticksOf, filetimeHilo, unixSecNsec}
 
 -- ---- filetime_hilo
 

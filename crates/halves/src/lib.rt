@@ -1,7 +1,9 @@
-// Instants in two numbers.
+// The three composites that come in two numbers: FILETIME in halves, VMSD, and seconds with nanoseconds.
+//
+// Every call is total: it answers the instant, or a refusal and nothing else.
 ghost use mathlib.Core.Path.{_≡_};
 ghost use Rattle.instant.specs.Answers.{readDecoded};
-ghost use Rattle.compose.specs.Pairs.{filetimeHilo, vmsdPair, unixSecNsec};
+ghost use Rattle.halves.specs.Halves.{filetimeHilo, vmsdPair, unixSecNsec};
 use instant::Decoded;
 use instant::Instant;
 use refusal::Refusal;

@@ -9,11 +9,11 @@ use mir.Facts.{toZ-ofZ, toZ-pos}
 use Rattle.signed.specs.Floor.{floorRem}
 use Rattle.signed.proofs.Floor.{floor-law}
 use Rattle.instant.proofs.Parts.{of-parts}
-use Rattle.compose.specs.Pairs.{microsOf, vmsdPair}
-use Rattle.compose.proofs.Halves.{wider, low-half, micros-fit}
+use Rattle.halves.specs.Halves.{microsOf, vmsdPair}
+use Rattle.halves.proofs.Halves.{wider, low-half, micros-fit}
 use native.Mathlib.Omega.{arith}
-use Rattle.compose.proofs.pairs.vmsd.Statement.{statement}
-use Rattle.compose.proofs.pairs.vmsd.Tie as tie
+use Rattle.halves.proofs.vmsd.Statement.{statement}
+use Rattle.halves.proofs.vmsd.Tie as tie
 
 cast-to-bits : tie.Need-cast-to-bits
 cast-to-bits c = rw (toZ-ofZ (c .fits .low)) (wider (c .args .low) (c .fits .low))

@@ -9,10 +9,10 @@ use mir.Syntax.{w64}
 use mir.Val.{toZ}
 use mir.Facts.{toZ-ofZ, toZ-pos}
 use Rattle.instant.proofs.Parts.{of-parts}
-use Rattle.compose.proofs.Halves.{room-fits, no-room, carry-fits, carries}
+use Rattle.halves.proofs.Halves.{room-fits, no-room, carry-fits, carries}
 use native.Mathlib.Omega.{arith}
-use Rattle.compose.proofs.pairs.unix_sec_nsec.Statement.{statement}
-use Rattle.compose.proofs.pairs.unix_sec_nsec.Tie as tie
+use Rattle.halves.proofs.unix_sec_nsec.Statement.{statement}
+use Rattle.halves.proofs.unix_sec_nsec.Tie as tie
 
 cast-carry : tie.Need-cast-carry
 cast-carry c = search needs

@@ -8,11 +8,11 @@ use mir.Val.{SFits, toZ}
 use mir.Facts.{toZ-ofZ, toZ-pos}
 use Rattle.signed.proofs.Sizes.{less-fits}
 use Rattle.instant.proofs.Parts.{of-parts}
-use Rattle.compose.specs.Pairs.{ticksOf}
-use Rattle.compose.proofs.Halves.{top-bit, no-top-bit}
+use Rattle.halves.specs.Halves.{ticksOf}
+use Rattle.halves.proofs.Halves.{top-bit, no-top-bit}
 use native.Mathlib.Omega.{arith}
-use Rattle.compose.proofs.pairs.filetime_hilo.Statement.{statement}
-use Rattle.compose.proofs.pairs.filetime_hilo.Tie as tie
+use Rattle.halves.proofs.filetime_hilo.Statement.{statement}
+use Rattle.halves.proofs.filetime_hilo.Tie as tie
 
 returns : tie.Need-returns
 returns c = sym (top-bit (c .before .args .low) (c .before .args .high) (c .if1 .taken))
