@@ -1,5 +1,5 @@
 -- The lengths of years and months in the proleptic Gregorian calendar (ISO 8601), with a year 0. A year is a signed number;
--- months count from 1.
+-- the month m of a year counts from 1.
 use mathlib.Core.Bool.{Bool, true, false, not, _&&_, _||_}
 use mathlib.Core.List.{List, [], _∷_}
 use Prim.Native.Nat.{ℕ, zero, suc, _+_, _-_, _%_}
