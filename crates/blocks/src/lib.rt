@@ -4,7 +4,6 @@
 // No public function has a `requires`.
 ghost use mathlib.Core.Path.{_≡_};
 ghost use Prim.Native.Nat.{_≤_, _-_};
-ghost use lib.ListN.{take};
 ghost use Rattle.blocks.specs.Blocks.{kept, left};
 
 // Where a reader stands: how many bytes of the line it holds, and how many of its block's bytes it has used, of how many.
@@ -12,16 +11,6 @@ pub struct Place {
     pub held: usize,
     pub used: usize,
     pub filled: usize,
-}
-
-// The first n bytes of s: all of it where it has fewer.
-pub fn first(s: &[u8], n: usize) -> &[u8]
-    ensures { λ r. ⌜ now r ≡ take n (now (s .entry)) ⌝ }
-{
-    if s.len() < n {
-        return s;
-    }
-    &s[..n]
 }
 
 // Holds a byte behind the n that are held, and answers how many are held then. A byte for which there is no room is

@@ -6,17 +6,17 @@ use crate::numbers::answer_vmsd;
 use crate::stamps::answer_cp56;
 use crate::stamps::answer_oracle;
 use crate::stamps::answer_udf;
-use decimal::field_of;
 use decimal::number_in;
-use decimal::rest_of;
+use texts::after_space;
+use texts::before_space;
 
 // The bytes of the longest line that asks something.
 const LONGEST: usize = 64;
 
 // What stands behind a letter for two numbers. The last number is all that is left, so that another one spoils it.
 fn asks_numbers(letter: u8, text: &[u8]) {
-    let one = number_in(field_of(text));
-    let other = number_in(rest_of(text));
+    let one = number_in(before_space(text));
+    let other = number_in(after_space(text));
     if letter == b'f' {
         return answer_filetime(one, other);
     }
@@ -37,19 +37,19 @@ pub fn answer(line: &[u8]) {
     if line.len() < 2 {
         return say_bad_line();
     }
-    let kind = field_of(line);
+    let kind = before_space(line);
     if kind.len() != 1 {
         return say_bad_line();
     }
     let letter = kind[0];
     if letter == b'o' {
-        return answer_oracle(rest_of(line));
+        return answer_oracle(after_space(line));
     }
     if letter == b'c' {
-        return answer_cp56(rest_of(line));
+        return answer_cp56(after_space(line));
     }
     if letter == b't' {
-        return answer_udf(rest_of(line));
+        return answer_udf(after_space(line));
     }
-    asks_numbers(letter, rest_of(line));
+    asks_numbers(letter, after_space(line));
 }

@@ -3,10 +3,10 @@ use crate::answers::say_bad_line;
 use crate::answers::say_decoded;
 use crate::hex::Hex;
 use crate::hex::bytes_in;
-use blocks::first;
 use compose::cp56time2a;
 use compose::oracle_date;
 use compose::udf;
+use texts::first;
 
 // Room for half of the longest line.
 fn room() -> [u8; 32] {

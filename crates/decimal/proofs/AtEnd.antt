@@ -8,7 +8,7 @@ use lib.ListN.{length, take, drop, set, replicate, length-append, length-replica
 use lib.Seq.{set-at, drop-at, append-snoc}
 use Rattle.decimal.specs.declared.write.Text.{Text}
 use Rattle.decimal.specs.Write.{atEnd}
-use Rattle.decimal.proofs.Parts.{from-on}
+use Rattle.texts.proofs.Tails.{from-on}
 
 -- a byte in front of a text that zeros stand in front of
 last-zero : (k : ℕ) (t : List ℕ) → replicate (k + 1) 0 ++ t ≡ replicate k 0 ++ (0 ∷ t)

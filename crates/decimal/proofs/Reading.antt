@@ -11,7 +11,7 @@ use lib.ListN.{length, getD, drop, drop-of-length-le}
 use lib.Seq.{drop-cons}
 use Rattle.decimal.specs.declared.read.Natural.the-variants as natural
 use Rattle.decimal.specs.declared.read.Number.the-variants as number
-use Rattle.decimal.specs.Read.{behind, naturalOf, positive, negative, numberOf}
+use Rattle.decimal.specs.Read.{behind, naturalOf, positive, negative, numberIn}
 
 -- 19 digits are below 10^19, and one more digit is below ten times as much
 pub small : (i : ℕ) → i < 19 → 10 ^ i ≤ 1000000000000000000
@@ -39,17 +39,17 @@ module _ (s : List ℕ) (i v : ℕ) where
   end h = rw (drop-of-length-le s h)
 
 -- a text by its first byte
-pub none : (s : List ℕ) → length s ≡ 0 → number.Not ≡ numberOf s
-unfolding numberOf
+pub none : (s : List ℕ) → length s ≡ 0 → number.Not ≡ numberIn s
+unfolding numberIn
 none [] h = refl
 none (b ∷ bs) h = absurd (not-suc-le-zero {n = length bs} (omega arith))
 
-pub minus : (s : List ℕ) → 0 < length s → getD s 0 0 ≡ 45 → numberOf s ≡ negative (naturalOf (drop 1 s))
-unfolding numberOf
+pub minus : (s : List ℕ) → 0 < length s → getD s 0 0 ≡ 45 → numberIn s ≡ negative (naturalOf (drop 1 s))
+unfolding numberIn
 minus [] h e = absurd (not-suc-le-zero h)
 minus (b ∷ bs) h e = simp (eq-eqb b 45 e)
 
-pub no-minus : (s : List ℕ) → 0 < length s → (getD s 0 0 ≡ 45 → ⊥) → numberOf s ≡ positive (naturalOf s)
-unfolding numberOf
+pub no-minus : (s : List ℕ) → 0 < length s → (getD s 0 0 ≡ 45 → ⊥) → numberIn s ≡ positive (naturalOf s)
+unfolding numberIn
 no-minus [] h e = absurd (not-suc-le-zero h)
 no-minus (b ∷ bs) h e = simp (ne-eqb b 45 e)

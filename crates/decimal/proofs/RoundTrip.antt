@@ -12,7 +12,7 @@ use mir.Syntax.{w64}
 use mir.Val.{SFits}
 use Rattle.decimal.specs.declared.read.Natural.the-variants as natural
 use Rattle.decimal.specs.declared.read.Number.the-variants as number
-use Rattle.decimal.specs.Read.{behind, naturalOf, positive, negative, numberOf}
+use Rattle.decimal.specs.Read.{behind, naturalOf, positive, negative, numberIn}
 use Rattle.decimal.specs.Write.{digits, showNat, showInt}
 use Rattle.decimal.proofs.Reading.{no-minus}
 use Rattle.decimal.proofs.Writing.{more-digits, last-digit, tenth, length-show}
@@ -65,8 +65,8 @@ module _ (n : ℕ) (h : n < 10 ^ 19) where
   natural-back =
       simp (le-ltb (length (showNat n)) 1 (filled (showNat n) first-byte), le-ltb 19 (length (showNat n)) (length-show n)) read-back
 
-pub number-back : (z : ℤ) → SFits w64 z → numberOf (showInt z) ≡ number.Is z
-unfolding showInt numberOf positive negative
+pub number-back : (z : ℤ) → SFits w64 z → numberIn (showInt z) ≡ number.Is z
+unfolding showInt numberIn positive negative
 number-back (pos n) f =
     let h : n < 10 ^ 19 = omega (arith, f .sfits) in
     let b = first-byte n h in

@@ -1,4 +1,3 @@
 -- What the contracts cite: a file for each source module.
 pub mod Read
-pub mod Fields
 pub mod Write

@@ -30,6 +30,6 @@ negative natural.Not = number.Not
 negative (natural.Is n) = cond (ltb 9223372036854775808 n) number.Not (number.Is (negℤ (pos n)))
 
 -- an optional minus, then 1 to 19 digits, and nothing else
-unfoldable pub numberOf : List ℕ → Number
-numberOf [] = number.Not
-numberOf (b ∷ bs) = cond (eqb b 45) (negative (naturalOf bs)) (positive (naturalOf (b ∷ bs)))
+unfoldable pub numberIn : List ℕ → Number
+numberIn [] = number.Not
+numberIn (b ∷ bs) = cond (eqb b 45) (negative (naturalOf bs)) (positive (naturalOf (b ∷ bs)))

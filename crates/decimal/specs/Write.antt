@@ -1,10 +1,10 @@
--- A number written as text, and a text put into a buffer. A text is a list of bytes: the digit d is the byte 48 + d.
+-- A number written as text. A text is a list of bytes: the digit d is the byte 48 + d.
 use Prim.Native.Nat.{ℕ, zero, suc, _+_, _-_, _/_, _%_}
 use mathlib.Core.Bool.{cond}
 use mathlib.Core.List.{List, [], _∷_, _++_}
-use lib.Dec.{ltb, leb}
+use lib.Dec.{ltb}
 use lib.IntN.{ℤ, pos, negsuc}
-use lib.ListN.{length, take, drop, replicate}
+use lib.ListN.{length, replicate}
 use Rattle.decimal.specs.declared.write.Text.{Text}
 
 -- n in decimal, in at most k digits
@@ -24,15 +24,3 @@ showInt (negsuc n) = 45 ∷ showNat (suc n)
 -- text at the end of 20 bytes, with zeros in front, and where it begins
 unfoldable pub atEnd : List ℕ → Text
 atEnd text = record { bytes = replicate (20 - length text) 0 ++ text; from = 20 - length text }
-
--- a buffer after a text was put into it, and the index at which the next may stand
-pub record Written : Type 0 where
-  pub bytes : List ℕ
-  pub next : ℕ
-
--- text in place of out's bytes from index at on, where it fits; else out as it is
-unfoldable pub written : List ℕ → ℕ → List ℕ → Written
-written out at text =
-    cond (leb (at + length text) (length out))
-    (record { bytes = take at out ++ text ++ drop (at + length text) out; next = at + length text })
-    (record { bytes = out; next = at })

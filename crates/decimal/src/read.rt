@@ -1,6 +1,6 @@
 // Reading one number from a whole text: the digits first, then the sign and the range.
 ghost use mathlib.Core.Path.{_≡_};
-ghost use Rattle.decimal.specs.Read.{naturalOf, positive, negative, numberOf};
+ghost use Rattle.decimal.specs.Read.{naturalOf, positive, negative, numberIn};
 use signed::from_bits;
 use std::num::wrapping_sub_u64;
 
@@ -73,7 +73,7 @@ fn negative_of(n: Natural) -> Number
 
 // The number that all of text is: an optional minus, then 1 to 19 digits, and it fits an i64.
 pub fn number_in(text: &[u8]) -> Number
-    ensures { λ r. ⌜ r ≡ numberOf (now (text .entry)) ⌝ }
+    ensures { λ r. ⌜ r ≡ numberIn (now (text .entry)) ⌝ }
 {
     if text.len() == 0 {
         return Number::Not;

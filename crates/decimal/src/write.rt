@@ -1,9 +1,9 @@
-// Writing a number, and putting a text into a buffer.
+// Writing a number.
 ghost use mathlib.Core.Path.{_≡_};
 ghost use Prim.Native.Nat.{_≤_};
 ghost use lib.IntN.{natAbs};
 ghost use lib.ListN.{length, drop};
-ghost use Rattle.decimal.specs.Write.{showNat, showInt, atEnd, written};
+ghost use Rattle.decimal.specs.Write.{showNat, showInt, atEnd};
 use signed::to_bits;
 use std::num::wrapping_sub_u64;
 
@@ -59,25 +59,4 @@ pub fn text_of(z: i64) -> Text
         return Text { bytes, from };
     }
     t
-}
-
-// Copies text into out from index `at` on and answers the index behind it. Where there is no room for all of it, out
-// stays as it is and the answer is `at`.
-pub fn put(out: &mut [u8], at: usize, text: &[u8]) -> usize
-    ensures { λ r. ⌜ r ≡ written (now (out .entry)) at (now (text .entry)) .next ⌝ }
-    ensures { λ r. ⌜ now (out .exit) ≡ written (now (out .entry)) at (now (text .entry)) .bytes ⌝ }
-{
-    if out.len() < at {
-        return at;
-    }
-    let room = out.len() - at;
-    if room < text.len() {
-        return at;
-    }
-    let mut k = 0;
-    while k < text.len() {
-        out[at + k] = text[k];
-        k += 1;
-    }
-    at + k
 }

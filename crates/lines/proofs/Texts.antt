@@ -11,8 +11,8 @@ use lib.IntN.{ℤ, pos}
 use lib.ListN.{length, length-append, take-append-drop}
 use Rattle.refusal.specs.Answers.{Answer, gives, refused}
 use Rattle.instant.specs.declared.instants.Instant.{Instant}
-use Rattle.decimal.specs.Write.{Written, written}
-use Rattle.decimal.proofs.Buffer.{fits, follows}
+use Rattle.texts.specs.Buffer.{Written, written}
+use Rattle.texts.proofs.Putting.{fits, follows}
 use Rattle.decimal.proofs.Writing.{length-int}
 use Rattle.lines.specs.Questions.{questionOf}
 use Rattle.lines.specs.Answers.{badLine, refusedText, instantText, decodedText, encodedText, answerText, lineText, placed}

@@ -9,7 +9,8 @@ use mir.Syntax.{w64}
 use mir.Val.{ofZ}
 use Rattle.refusal.specs.Answers.{Answer, gives, refused}
 use Rattle.instant.specs.declared.instants.Instant.{Instant}
-use Rattle.decimal.specs.Write.{showInt, Written, written}
+use Rattle.texts.specs.Buffer.{Written, written}
+use Rattle.decimal.specs.Write.{showInt}
 use Rattle.registry.specs.Words.{decodeFor, encodeFor}
 use Rattle.lines.specs.Questions.{questionOf, narrowed}
 use Rattle.lines.specs.declared.questions.Question.{Question}

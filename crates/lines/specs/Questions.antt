@@ -5,8 +5,8 @@ use mathlib.Core.List.{List}
 use lib.Dec.{eqb, ltb}
 use lib.IntN.{ℤ, pos, negsuc}
 use lib.ListN.{length, getD}
-use Rattle.decimal.specs.Read.{numberOf}
-use Rattle.decimal.specs.Fields.{field, rest}
+use Rattle.texts.specs.Spaces.{beforeSpace, afterSpace}
+use Rattle.decimal.specs.Read.{numberIn}
 use Rattle.decimal.specs.declared.read.Number.{Number}
 use Rattle.decimal.specs.declared.read.Number.the-variants as number
 use Rattle.lines.specs.declared.questions.Question.{Question}
@@ -27,21 +27,21 @@ asksEncode number.Not seconds nanos = question.Bad
 
 -- LAYOUT WORD: what is left behind the one space is one number, so that another space spoils it
 unfoldable pub decodeIn : List ℕ → Question
-decodeIn text = asksDecode (numberOf (field text)) (numberOf (rest text))
+decodeIn text = asksDecode (numberIn (beforeSpace text)) (numberIn (afterSpace text))
 
 -- LAYOUT SECONDS NANOS
 unfoldable pub encodeIn : List ℕ → Question
-encodeIn text = asksEncode (numberOf (field text)) (numberOf (field (rest text))) (numberOf (rest (rest text)))
+encodeIn text = asksEncode (numberIn (beforeSpace text)) (numberIn (beforeSpace (afterSpace text))) (numberIn (afterSpace (afterSpace text)))
 
 -- d or e, and what stands behind its space
 unfoldable pub behindLetter : ℕ → List ℕ → Question
 behindLetter letter text = cond (eqb letter 100) (decodeIn text) (cond (eqb letter 101) (encodeIn text) question.Bad)
 
--- a line of at most 64 bytes whose first field is one letter
+-- a line of at most 64 bytes with one letter before its first space
 unfoldable pub questionOf : List ℕ → Question
 questionOf line =
     cond (ltb 64 (length line)) question.Bad
-    (cond (eqb (length (field line)) 1) (behindLetter (getD (field line) 0 0) (rest line)) question.Bad)
+    (cond (eqb (length (beforeSpace line)) 1) (behindLetter (getD (beforeSpace line) 0 0) (afterSpace line)) question.Bad)
 
 -- a number for the codec, where 32 bits hold it; else another, which the codec refuses
 unfoldable pub narrowed : ℤ → ℕ → ℕ

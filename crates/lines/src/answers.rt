@@ -3,12 +3,12 @@ ghost use mathlib.Core.Path.{_≡_};
 ghost use Prim.Native.Nat.{_+_, _≤_};
 ghost use lib.ListN.{length};
 ghost use Rattle.instant.specs.Answers.{readEncoded, readDecoded};
-ghost use Rattle.decimal.specs.Write.{showInt, written};
+ghost use Rattle.decimal.specs.Write.{showInt};
+ghost use Rattle.texts.specs.Buffer.{written};
 ghost use Rattle.lines.specs.Questions.{narrowed};
 ghost use Rattle.lines.specs.Answers.{badLine, refusedText, instantText, decodedText, encodedText, answerText, placed, lineText};
 use crate::questions::Question;
 use crate::questions::question_in;
-use decimal::put;
 use decimal::text_of;
 use instant::Instant;
 use refusal::Refusal;
@@ -17,6 +17,7 @@ use registry::Encoded;
 use registry::decode;
 use registry::encode;
 use signed::to_bits;
+use texts::put;
 
 // The room that every answer has, its LF too.
 pub const ROOM: usize = 48;

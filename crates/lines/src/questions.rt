@@ -2,9 +2,9 @@
 ghost use mathlib.Core.Path.{_≡_};
 ghost use Rattle.lines.specs.Questions.{asksDecode, asksEncode, decodeIn, encodeIn, questionOf};
 use decimal::Number;
-use decimal::field_of;
 use decimal::number_in;
-use decimal::rest_of;
+use texts::after_space;
+use texts::before_space;
 
 // The bytes of the longest line that asks something.
 const LONGEST: usize = 64;
@@ -49,8 +49,8 @@ fn asks_encode(layout: Number, seconds: Number, nanos: Number) -> Question
 fn decode_in(text: &[u8]) -> Question
     ensures { λ r. ⌜ r ≡ decodeIn (now (text .entry)) ⌝ }
 {
-    let layout = number_in(field_of(text));
-    let word = number_in(rest_of(text));
+    let layout = number_in(before_space(text));
+    let word = number_in(after_space(text));
     asks_decode(layout, word)
 }
 
@@ -58,10 +58,10 @@ fn decode_in(text: &[u8]) -> Question
 fn encode_in(text: &[u8]) -> Question
     ensures { λ r. ⌜ r ≡ encodeIn (now (text .entry)) ⌝ }
 {
-    let layout = number_in(field_of(text));
-    let instant = rest_of(text);
-    let seconds = number_in(field_of(instant));
-    let nanos = number_in(rest_of(instant));
+    let layout = number_in(before_space(text));
+    let instant = after_space(text);
+    let seconds = number_in(before_space(instant));
+    let nanos = number_in(after_space(instant));
     asks_encode(layout, seconds, nanos)
 }
 
@@ -72,16 +72,16 @@ pub fn question_in(line: &[u8]) -> Question
     if LONGEST < line.len() {
         return Question::Bad;
     }
-    let kind = field_of(line);
+    let kind = before_space(line);
     if kind.len() != 1 {
         return Question::Bad;
     }
     let letter = kind[0];
     if letter == b'd' {
-        return decode_in(rest_of(line));
+        return decode_in(after_space(line));
     }
     if letter == b'e' {
-        return encode_in(rest_of(line));
+        return encode_in(after_space(line));
     }
     Question::Bad
 }

@@ -4,10 +4,10 @@ use crate::answers::say_fields;
 use crate::answers::say_seconds;
 use civil::Civil;
 use decimal::Number;
-use decimal::field_of;
 use decimal::number_in;
-use decimal::rest_of;
 use signed::to_bits;
+use texts::after_space;
+use texts::before_space;
 
 // The bytes of the longest line that asks something.
 const LONGEST: usize = 64;
@@ -26,7 +26,7 @@ fn natural_in(text: &[u8]) -> u64 {
 
 // The same of its first field.
 fn first_in(text: &[u8]) -> u64 {
-    natural_in(field_of(text))
+    natural_in(before_space(text))
 }
 
 // The fields are as natural_in has them: one above LARGEST has the highest bit, and so have all of them together.
@@ -39,21 +39,21 @@ fn answer_seconds(time: Civil) {
 
 // What stands behind the `c `. The last field is all that is left, so that a seventh spoils it.
 fn asks_seconds(text: &[u8]) {
-    let found = number_in(field_of(text));
+    let found = number_in(before_space(text));
     let Number::Is(year) = found else {
         return say_bad_line();
     };
-    let months = rest_of(text);
-    let days = rest_of(months);
-    let hours = rest_of(days);
-    let minutes = rest_of(hours);
+    let months = after_space(text);
+    let days = after_space(months);
+    let hours = after_space(days);
+    let minutes = after_space(hours);
     answer_seconds(Civil {
         year,
         month: first_in(months),
         day: first_in(days),
         hour: first_in(hours),
         minute: first_in(minutes),
-        second: natural_in(rest_of(minutes)),
+        second: natural_in(after_space(minutes)),
     });
 }
 
@@ -71,15 +71,15 @@ pub fn answer(line: &[u8]) {
     if LONGEST < line.len() {
         return say_bad_line();
     }
-    let kind = field_of(line);
+    let kind = before_space(line);
     if kind.len() != 1 {
         return say_bad_line();
     }
     if kind[0] == b'c' {
-        return asks_seconds(rest_of(line));
+        return asks_seconds(after_space(line));
     }
     if kind[0] == b's' {
-        return asks_fields(rest_of(line));
+        return asks_fields(after_space(line));
     }
     say_bad_line();
 }

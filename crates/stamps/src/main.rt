@@ -9,11 +9,11 @@
 // the next one is read, in as few writes as it fits. Where nothing more can be written, it ends and says nothing.
 ghost use Prim.Native.Nat.{_≤_, _<_};
 ghost use lib.ListN.{length};
-use blocks::first;
 use libc::STDIN_FILENO;
 use libc::STDOUT_FILENO;
 use stream::feed;
 use stream::last_line;
+use texts::first;
 
 // How many bytes of a line are held, and how many turns are left.
 struct Turned {

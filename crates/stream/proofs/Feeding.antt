@@ -12,8 +12,8 @@ use lib.Dec.{eqb}
 use lib.ListN.{length, getD, take, drop, length-append, take-append-drop, drop-of-length-le}
 use lib.Seq.{drop-cons, take-suc, take-at, drop-at, drop-drop, length-take-le}
 use Rattle.blocks.specs.Blocks.{Kept, kept}
-use Rattle.decimal.specs.Write.{Written}
-use Rattle.decimal.proofs.Buffer.{pasted, fits}
+use Rattle.texts.specs.Buffer.{Written}
+use Rattle.texts.proofs.Putting.{pasted, fits}
 use Rattle.stream.specs.Stream.{holds, lineIn, After, step, then, steps, taken, Feeds}
 use Rattle.lines.proofs.Texts.{Puts, length-line}
 

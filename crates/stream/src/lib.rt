@@ -6,13 +6,13 @@
 ghost use mathlib.Core.Path.{_≡_};
 ghost use Prim.Native.Nat.{_+_, _≤_};
 ghost use lib.ListN.{length};
-ghost use Rattle.decimal.specs.Write.{written};
+ghost use Rattle.texts.specs.Buffer.{written};
 ghost use Rattle.lines.specs.Answers.{placed};
 ghost use Rattle.stream.specs.Stream.{holds, step, lastText, Feeds};
-use blocks::first;
 use blocks::keep;
 use lines::ROOM;
 use lines::answer_line;
+use texts::first;
 
 // After a block was fed, or a part of it: how many of its bytes were taken, how many bytes are held, and how many were
 // written.

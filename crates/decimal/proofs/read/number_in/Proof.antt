@@ -3,7 +3,7 @@ use borrow.Author.Needs.{needs}
 use mathlib.Core.Path.{ap, sym, _∙_}
 use native.Mathlib.Nat.{pos-of-ne-zero}
 use Rattle.decimal.specs.Read.{naturalOf, positive, negative}
-use Rattle.decimal.proofs.Parts.{from-on}
+use Rattle.texts.proofs.Tails.{from-on}
 use Rattle.decimal.proofs.Reading.{none, minus, no-minus}
 use Rattle.decimal.proofs.read.number_in.Statement.{statement}
 use Rattle.decimal.proofs.read.number_in.Tie as tie

@@ -4,23 +4,23 @@ use Rattle.lines.specs.Questions.{encodeIn}
 use Rattle.lines.proofs.questions.encode_in.Statement.{statement}
 use Rattle.lines.proofs.questions.encode_in.Tie as tie
 
-field-of-requires : tie.Need-field-of-requires
-field-of-requires c κs = search needs
+before-space-requires : tie.Need-before-space-requires
+before-space-requires c κs = search needs
 
 number-in-requires : tie.Need-number-in-requires
 number-in-requires c κs = search needs
 
-rest-of-requires : tie.Need-rest-of-requires
-rest-of-requires c κs = search needs
+after-space-requires : tie.Need-after-space-requires
+after-space-requires c κs = search needs
 
-field-of-requires-2 : tie.Need-field-of-requires-2
-field-of-requires-2 c κs = search needs
+before-space-requires-2 : tie.Need-before-space-requires-2
+before-space-requires-2 c κs = search needs
 
 number-in-requires-2 : tie.Need-number-in-requires-2
 number-in-requires-2 c κs = search needs
 
-rest-of-requires-2 : tie.Need-rest-of-requires-2
-rest-of-requires-2 c κs = search needs
+after-space-requires-2 : tie.Need-after-space-requires-2
+after-space-requires-2 c κs = search needs
 
 number-in-requires-3 : tie.Need-number-in-requires-3
 number-in-requires-3 c κs = search needs
@@ -37,24 +37,24 @@ returns c =
     let layout = instant .before in
     rw (
       layout .number-in .ensures,
-      layout .before .field-of .ensures,
+      layout .before .before-space .ensures,
       seconds .number-in2 .ensures,
-      seconds .before .field-of2 .ensures,
+      seconds .before .before-space2 .ensures,
       nanos .number-in3 .ensures,
-      nanos .before .rest-of2 .ensures,
-      instant .rest-of .ensures,
+      nanos .before .after-space2 .ensures,
+      instant .after-space .ensures,
     ) at (c .asks-encode .ensures)
 
 pub encode-in-spec : {M : Type 1} → statement M
 encode-in-spec =
     tie.close
     (tie.spec
-    field-of-requires
+    before-space-requires
     number-in-requires
-    rest-of-requires
-    field-of-requires-2
+    after-space-requires
+    before-space-requires-2
     number-in-requires-2
-    rest-of-requires-2
+    after-space-requires-2
     number-in-requires-3
     asks-encode-requires
     returns)

@@ -3,7 +3,7 @@ use borrow.Author.Needs.{needs}
 use borrow.Author.Tests.{lt-ltb, le-ltb, eq-eqb, ne-eqb}
 use mathlib.Core.Path.{_≡_, ap, _∙_}
 use lib.ListN.{getD}
-use Rattle.decimal.specs.Fields.{rest}
+use Rattle.texts.specs.Spaces.{afterSpace}
 use Rattle.lines.specs.Questions.{decodeIn, encodeIn, behindLetter, questionOf}
 use Rattle.lines.proofs.questions.question_in.Statement.{statement}
 use Rattle.lines.proofs.questions.question_in.Tie as tie
@@ -12,27 +12,27 @@ returns : tie.Need-returns
 unfolding questionOf
 returns c = simp (lt-ltb _ _ (c .if1 .taken))
 
-field-of-requires : tie.Need-field-of-requires
-field-of-requires c κs = search needs
+before-space-requires : tie.Need-before-space-requires
+before-space-requires c κs = search needs
 
 returns-2 : tie.Need-returns-2
 unfolding questionOf
 returns-2 c =
     let f = c .before in
-    simp (le-ltb _ _ (f .before .if1 .left), ← f .field-of .ensures, ne-eqb _ _ (c .if2 .taken))
+    simp (le-ltb _ _ (f .before .if1 .left), ← f .before-space .ensures, ne-eqb _ _ (c .if2 .taken))
 
 shared-slice-read-letter : tie.Need-shared-slice-read-letter
 shared-slice-read-letter c = search needs
 
--- a short line whose first field is one letter
+-- a short line with one letter before its first space
 letter-first : (c : tie.Else2)
     → questionOf (c .before .before .before .before .args .line .now)
-    ≡ behindLetter (getD (c .before .field-of .result .now) 0 0) (rest (c .before .before .before .before .args .line .now))
+    ≡ behindLetter (getD (c .before .before-space .result .now) 0 0) (afterSpace (c .before .before .before .before .args .line .now))
 unfolding questionOf
-letter-first c = simp (le-ltb _ _ (c .before .before .if1 .left), ← c .before .field-of .ensures, eq-eqb _ _ (c .if2 .left))
+letter-first c = simp (le-ltb _ _ (c .before .before .if1 .left), ← c .before .before-space .ensures, eq-eqb _ _ (c .if2 .left))
 
-rest-of-requires : tie.Need-rest-of-requires
-rest-of-requires c κs = search needs
+after-space-requires : tie.Need-after-space-requires
+after-space-requires c κs = search needs
 
 decode-in-requires : tie.Need-decode-in-requires
 decode-in-requires c κs = search needs
@@ -41,11 +41,11 @@ returns-3 : tie.Need-returns-3
 unfolding behindLetter
 returns-3 c =
     let letter = c .before .before in
-    c .decode-in .ensures ∙ ap decodeIn (c .before .rest-of .ensures)
+    c .decode-in .ensures ∙ ap decodeIn (c .before .after-space .ensures)
     ∙ rw (letter-first (letter .before .before)) (simp (eq-eqb _ _ (letter .if3 .taken)))
 
-rest-of-requires-2 : tie.Need-rest-of-requires-2
-rest-of-requires-2 c κs = search needs
+after-space-requires-2 : tie.Need-after-space-requires-2
+after-space-requires-2 c κs = search needs
 
 encode-in-requires : tie.Need-encode-in-requires
 encode-in-requires c κs = search needs
@@ -54,7 +54,7 @@ returns-4 : tie.Need-returns-4
 unfolding behindLetter
 returns-4 c =
     let letter = c .before .before in
-    c .encode-in .ensures ∙ ap encodeIn (c .before .rest-of2 .ensures)
+    c .encode-in .ensures ∙ ap encodeIn (c .before .after-space2 .ensures)
     ∙ rw (letter-first (letter .before .before .before)) (simp (ne-eqb _ _ (letter .before .if3 .left), eq-eqb _ _ (letter .if4 .taken)))
 
 returns-5 : tie.Need-returns-5
@@ -66,13 +66,13 @@ question-in-spec =
     tie.close
     (tie.spec
     returns
-    field-of-requires
+    before-space-requires
     returns-2
     shared-slice-read-letter
-    rest-of-requires
+    after-space-requires
     decode-in-requires
     returns-3
-    rest-of-requires-2
+    after-space-requires-2
     encode-in-requires
     returns-4
     returns-5)

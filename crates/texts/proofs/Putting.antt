@@ -6,7 +6,7 @@ use native.Mathlib.Omega.{arith}
 use borrow.Author.Tests.{le-leb, lt-leb}
 use lib.ListN.{length, take, drop, length-append, length-drop}
 use lib.Seq.{take-at, drop-at, drop-drop, length-take-le}
-use Rattle.decimal.specs.Write.{written}
+use Rattle.texts.specs.Buffer.{written}
 
 -- out with text from index at on
 abbrev pub pasted : List ℕ → ℕ → List ℕ → List ℕ

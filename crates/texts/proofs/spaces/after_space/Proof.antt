@@ -1,11 +1,11 @@
--- `decimal::fields::rest_of` meets its contract, by that of `space_in`: at the end there is nothing to step over.
+-- `texts::spaces::after_space` meets its contract, by that of `space_in`: at the end there is nothing to step over.
 -- Assumes nothing.
 use borrow.Author.Needs.{needs}
 use Prim.Native.Nat.{_+_}
 use mathlib.Core.Path.{sym, _∙_}
-use Rattle.decimal.proofs.Parts.{from-on, nothing-on}
-use Rattle.decimal.proofs.fields.rest_of.Statement.{statement}
-use Rattle.decimal.proofs.fields.rest_of.Tie as tie
+use Rattle.texts.proofs.Tails.{from-on, nothing-on}
+use Rattle.texts.proofs.spaces.after_space.Statement.{statement}
+use Rattle.texts.proofs.spaces.after_space.Tie as tie
 
 space-in-requires : tie.Need-space-in-requires
 space-in-requires c κs = search needs
@@ -41,8 +41,8 @@ returns-2 c =
     let k = c .before .before .space-in in
     nothing-on (c .before .before .before .before .args .s .now) (k .result) (c .before .if1 .left) ∙ sym (k .ensures .1 .0)
 
-pub rest-of-spec : {M : Type 1} → statement M
-rest-of-spec =
+pub after-space-spec : {M : Type 1} → statement M
+after-space-spec =
     tie.close
     (tie.spec
     space-in-requires

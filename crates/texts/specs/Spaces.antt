@@ -5,11 +5,11 @@ use mathlib.Core.List.{List, [], _∷_}
 use lib.Dec.{eqb}
 
 -- what stands before the first space: all of it where there is none
-unfoldable pub field : List ℕ → List ℕ
-field [] = []
-field (b ∷ bs) = cond (eqb b 32) [] (b ∷ field bs)
+unfoldable pub beforeSpace : List ℕ → List ℕ
+beforeSpace [] = []
+beforeSpace (b ∷ bs) = cond (eqb b 32) [] (b ∷ beforeSpace bs)
 
 -- what stands after the first space: nothing where there is none
-unfoldable pub rest : List ℕ → List ℕ
-rest [] = []
-rest (b ∷ bs) = cond (eqb b 32) bs (rest bs)
+unfoldable pub afterSpace : List ℕ → List ℕ
+afterSpace [] = []
+afterSpace (b ∷ bs) = cond (eqb b 32) bs (afterSpace bs)

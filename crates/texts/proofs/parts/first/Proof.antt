@@ -1,10 +1,10 @@
--- `blocks::first` meets its contract: n bytes are all of s where it has no more. Assumes nothing.
+-- `texts::parts::first` meets its contract: n bytes are all of s where it has no more. Assumes nothing.
 use borrow.Author.Needs.{needs}
 use mathlib.Core.Path.{sym}
 use native.Mathlib.Omega.{arith}
 use lib.Seq.{length-take-le, take-all}
-use Rattle.blocks.proofs.first.Statement.{statement}
-use Rattle.blocks.proofs.first.Tie as tie
+use Rattle.texts.proofs.parts.first.Statement.{statement}
+use Rattle.texts.proofs.parts.first.Tie as tie
 
 returns : tie.Need-returns
 returns c = sym (take-all (c .before .args .n) (c .before .args .s .now) (omega arith))

@@ -1,4 +1,4 @@
--- `decimal::write::put` meets its contract. The loop's invariant: the first k bytes of the text stand in the buffer from
+-- `texts::buffer::put` meets its contract. The loop's invariant: the first k bytes of the text stand in the buffer from
 -- `at` on, and every other byte is as it was. Assumes nothing.
 use Prim.Native.Nat.{_≤_, _+_, _-_}
 use mathlib.Core.Path.{_≡_, refl, _∙_}
@@ -6,9 +6,9 @@ use native.Mathlib.Omega.{arith}
 use native.Mathlib.Numerals.{add-one}
 use lib.ListN.{length, length-set}
 use lib.Seq.{paste, paste-zero, paste-suc, take-length}
-use Rattle.decimal.proofs.Buffer.{fits, full}
-use Rattle.decimal.proofs.write.put.Statement.{statement}
-use Rattle.decimal.proofs.write.put.Tie as tie
+use Rattle.texts.proofs.Putting.{fits, full}
+use Rattle.texts.proofs.buffer.put.Statement.{statement}
+use Rattle.texts.proofs.buffer.put.Tie as tie
 
 abbrev Inv-loop : tie.InvT-loop
 Inv-loop out₀ at text room k₀ out k =

@@ -1,9 +1,9 @@
--- `decimal::fields::field_of` meets its contract, by that of `space_in`. Assumes nothing.
+-- `texts::spaces::before_space` meets its contract, by that of `space_in`. Assumes nothing.
 use borrow.Author.Needs.{needs}
 use mathlib.Core.Path.{sym}
 use lib.Seq.{length-take-le}
-use Rattle.decimal.proofs.fields.field_of.Statement.{statement}
-use Rattle.decimal.proofs.fields.field_of.Tie as tie
+use Rattle.texts.proofs.spaces.before_space.Statement.{statement}
+use Rattle.texts.proofs.spaces.before_space.Tie as tie
 
 space-in-requires : tie.Need-space-in-requires
 space-in-requires c κs = search needs
@@ -15,5 +15,5 @@ slice-aggregate-result c =
 returns : tie.Need-returns
 returns c = sym (c .before .space-in .ensures .0)
 
-pub field-of-spec : {M : Type 1} → statement M
-field-of-spec = tie.close (tie.spec space-in-requires slice-aggregate-result returns)
+pub before-space-spec : {M : Type 1} → statement M
+before-space-spec = tie.close (tie.spec space-in-requires slice-aggregate-result returns)
