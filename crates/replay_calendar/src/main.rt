@@ -10,12 +10,18 @@ mod answers;
 mod questions;
 
 use crate::questions::answer;
-use blocks::Place;
-use blocks::keep;
-use blocks::turns_left;
 use libc::STDIN_FILENO;
+use line_input::keep;
+use line_input::turns_left;
 use octets::byte_at;
 use texts::first;
+
+// Where the program stands: how many bytes of a line it holds, and how many of its block's bytes it has used, of how many.
+struct Place {
+    held: usize,
+    used: usize,
+    filled: usize,
+}
 
 // A byte of a line: answers how many bytes of the line are held then. What `held` has no room for is dropped: such a line
 // is too long in any case.

@@ -11,10 +11,10 @@ use borrow.Author.Tests.{le-leb, lt-leb}
 use lib.Dec.{eqb}
 use lib.ListN.{length, getD, take, drop, length-append, take-append-drop, drop-of-length-le}
 use lib.Seq.{drop-cons, take-suc, take-at, drop-at, drop-drop, length-take-le}
-use Rattle.blocks.specs.Blocks.{Kept, kept}
+use Rattle.line_input.specs.Held.{Kept, holds, lineIn, kept}
 use Rattle.texts.specs.Buffer.{Written}
 use Rattle.texts.proofs.Putting.{pasted, fits}
-use Rattle.stream.specs.Stream.{holds, lineIn, After, step, then, steps, taken, Feeds}
+use Rattle.stream.specs.Stream.{After, step, then, steps, taken, Feeds}
 use Rattle.lines.proofs.Texts.{Puts, length-line}
 
 -- a byte's text is at most a line's
@@ -26,7 +26,7 @@ either false xs h k l = omega arith
 pub length-step : (h : Kept) (b : ℕ) → length (step h b .text) ≤ 42
 unfolding step
 length-step h b =
-    either (eqb b 10) _ (holds (h .bytes) 0) (kept (h .bytes) (h .count) b) (length-line (lineIn h))
+    either (eqb b 10) _ (holds (h .bytes) 0) (kept h b) (length-line (lineIn h))
 
 -- input in two parts is the same as the whole
 pub in-parts : (h : Kept) (xs ys : List ℕ) → steps h (xs ++ ys) ≡ then (steps h xs .text) (steps (steps h xs .held) ys)

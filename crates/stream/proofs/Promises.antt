@@ -10,10 +10,10 @@ use borrow.Author.Tests.{lt-ltb, ne-eqb, ltb-true, ltb-false, le-leb}
 use lib.Dec.{eqb, ltb, leb}
 use lib.ListN.{length, take, drop, length-append, length-set}
 use lib.Seq.{length-take-le, take-suc-set}
-use Rattle.blocks.specs.Blocks.{Kept, kept}
+use Rattle.line_input.specs.Held.{Kept, holds, lineIn, kept}
 use Rattle.lines.specs.Questions.{questionOf}
 use Rattle.lines.specs.Answers.{badLine, answerText, lineText}
-use Rattle.stream.specs.Stream.{holds, lineIn, After, step, steps, taken, lastText}
+use Rattle.stream.specs.Stream.{After, step, steps, taken, lastText}
 use Rattle.stream.specs.Promises.{linesBehind, answersTo, outputOf, inBlocks, joined, whole, AnyBlocks, Progress, OneAnswer}
 use Rattle.stream.proofs.Feeding.{in-parts}
 
@@ -46,7 +46,7 @@ module _ {bytes : List ℕ} {n : ℕ} {line : List ℕ} (room : length bytes ≡
 -- another byte of the line
 longer : {bytes : List ℕ} {n : ℕ} {line : List ℕ} (b : ℕ) (t : Bool) → ltb n (length bytes) ≡ t → length bytes ≡ 65
     → Held bytes n line
-    → Held (kept bytes n b .bytes) (kept bytes n b .count) (line ++ (b ∷ [])) × (length (kept bytes n b .bytes) ≡ 65)
+    → Held (kept (holds bytes n) b .bytes) (kept (holds bytes n) b .count) (line ++ (b ∷ [])) × (length (kept (holds bytes n) b .bytes) ≡ 65)
 unfolding kept
 longer {bytes} {n} {line} b true e room (all-of-it f h) =
     let l = ltb-true n (length bytes) e in
@@ -74,7 +74,7 @@ step-end : (h : Kept) (b : ℕ) → eqb b 10 ≡ true → step h b ≡ record { 
 unfolding step
 step-end h b e = simp e
 
-step-more : (h : Kept) (b : ℕ) → eqb b 10 ≡ false → step h b ≡ record { text = []; held = kept (h .bytes) (h .count) b }
+step-more : (h : Kept) (b : ℕ) → eqb b 10 ≡ false → step h b ≡ record { text = []; held = kept h b }
 unfolding step
 step-more h b e = simp e
 

@@ -5,9 +5,9 @@ use mathlib.Core.Bool.{cond}
 use mathlib.Core.List.{List, [], _∷_, _++_}
 use lib.Dec.{eqb}
 use lib.ListN.{length}
-use Rattle.blocks.specs.Blocks.{Kept}
+use Rattle.line_input.specs.Held.{Kept, holds}
 use Rattle.lines.specs.Answers.{lineText}
-use Rattle.stream.specs.Stream.{holds, After, then, steps, taken, Feeds, lastText}
+use Rattle.stream.specs.Stream.{After, then, steps, taken, Feeds, lastText}
 use Rattle.stream.specs.declared.Fed.{Fed}
 
 -- ---- the whole input

@@ -5,17 +5,9 @@ use mathlib.Core.Bool.{cond}
 use mathlib.Core.List.{List, [], _∷_, _++_}
 use lib.Dec.{eqb, leb}
 use lib.ListN.{length, take, drop}
-use Rattle.blocks.specs.Blocks.{Kept, kept}
+use Rattle.line_input.specs.Held.{Kept, holds, lineIn, kept}
 use Rattle.lines.specs.Answers.{lineText}
 use Rattle.stream.specs.declared.Fed.{Fed}
-
--- the first n of some bytes are held
-abbrev pub holds : List ℕ → ℕ → Kept
-holds bytes n = record { bytes = bytes; count = n }
-
--- what is held is the line that is not finished
-abbrev pub lineIn : Kept → List ℕ
-lineIn h = take (h .count) (h .bytes)
 
 -- what some input leaves: the text that it has written, and what is held then
 pub record After : Type 0 where
@@ -26,7 +18,7 @@ pub record After : Type 0 where
 unfoldable pub step : Kept → ℕ → After
 step h b =
     cond (eqb b 10) (record { text = lineText (lineIn h); held = holds (h .bytes) 0 })
-    (record { text = []; held = kept (h .bytes) (h .count) b })
+    (record { text = []; held = kept h b })
 
 -- text, and then what follows it
 abbrev pub then : List ℕ → After → After

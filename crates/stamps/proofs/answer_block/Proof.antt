@@ -4,7 +4,8 @@ use Prim.Native.Nat.{_+_, _-_, _≤_, _<_}
 use mathlib.Core.Path.{_≡_, _∙_}
 use native.Mathlib.Omega.{arith}
 use lib.ListN.{length, take, drop, length-take, length-drop}
-use Rattle.stream.specs.Stream.{holds, taken}
+use Rattle.line_input.specs.Held.{holds}
+use Rattle.stream.specs.Stream.{taken}
 use Rattle.stream.proofs.Promises.{progress}
 use Rattle.stamps.proofs.answer_block.Statement.{statement}
 use Rattle.stamps.proofs.answer_block.Tie as tie

@@ -3,7 +3,7 @@
 use Prim.Native.Nat.{_-_}
 use native.Mathlib.Omega.{arith}
 use lib.ListN.{length}
-use Rattle.stream.specs.Stream.{holds}
+use Rattle.line_input.specs.Held.{holds}
 use Rattle.stream.proofs.Feeding.{Feeding, feed-start, feed-more, feed-end, taken-full, taken-all}
 use Rattle.stream.proofs.feed.Statement.{statement}
 use Rattle.stream.proofs.feed.Tie as tie

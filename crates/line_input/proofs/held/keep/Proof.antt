@@ -1,9 +1,9 @@
--- `blocks::keep` meets its contract, by the test for room. Assumes nothing.
+-- `line_input::held::keep` meets its contract, by the test for room. Assumes nothing.
 use borrow.Author.Needs.{needs}
 use borrow.Author.Tests.{lt-ltb, le-ltb}
-use Rattle.blocks.specs.Blocks.{kept}
-use Rattle.blocks.proofs.keep.Statement.{statement}
-use Rattle.blocks.proofs.keep.Tie as tie
+use Rattle.line_input.specs.Held.{kept}
+use Rattle.line_input.proofs.held.keep.Statement.{statement}
+use Rattle.line_input.proofs.held.keep.Tie as tie
 
 slice-write-held : tie.Need-slice-write-held
 slice-write-held c = search needs

@@ -1,10 +1,10 @@
--- `blocks::turns_left` meets its contract. Assumes nothing.
+-- `line_input::turns::turns_left` meets its contract. Assumes nothing.
 use borrow.Author.Needs.{needs}
 use borrow.Author.Tests.{ne-eqb}
 use native.Mathlib.Omega.{arith}
-use Rattle.blocks.specs.Blocks.{left}
-use Rattle.blocks.proofs.turns_left.Statement.{statement}
-use Rattle.blocks.proofs.turns_left.Tie as tie
+use Rattle.line_input.specs.Turns.{left}
+use Rattle.line_input.proofs.turns.turns_left.Statement.{statement}
+use Rattle.line_input.proofs.turns.turns_left.Tie as tie
 
 returns : tie.Need-returns
 unfolding left

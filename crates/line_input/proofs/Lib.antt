@@ -1,0 +1,3 @@
+-- The laws that the proofs cite, and that callers can. Assumes nothing.
+pub mod FirstLf
+pub mod Promises
