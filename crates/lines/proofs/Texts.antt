@@ -15,7 +15,7 @@ use Rattle.texts.specs.Buffer.{Written, written}
 use Rattle.texts.proofs.Putting.{fits, follows}
 use Rattle.decimal.proofs.Writing.{length-int}
 use Rattle.lines.specs.Questions.{questionOf}
-use Rattle.lines.specs.Answers.{badLine, refusedText, instantText, decodedText, encodedText, answerText, lineText, placed}
+use Rattle.lines.specs.Answers.{badLine, refusedText, instantText, decodedText, encodedText, answerText, lineText, inRoom}
 use Rattle.lines.specs.declared.questions.Question.{Question}
 use Rattle.lines.specs.declared.questions.Question.the-variants as question
 
@@ -36,22 +36,22 @@ pub nothing-put : (out : List ℕ) (at : ℕ) → at ≤ length out → Puts out
 nothing-put out at h = rw (written-nothing out at h) (refl, refl)
 
 -- a text is placed where there is room for any
-pub placed-room : (out : List ℕ) (at : ℕ) (text : List ℕ) → at + 48 ≤ length out → placed out at text ≡ written out at text
-unfolding placed
-placed-room out at text h = simp (le-leb (at + 48) (length out) h)
+pub in-room : (out : List ℕ) (at : ℕ) (text : List ℕ) → at + 48 ≤ length out → inRoom out at text ≡ written out at text
+unfolding inRoom
+in-room out at text h = simp (le-leb (at + 48) (length out) h)
 
-pub placed-full : (out : List ℕ) (at : ℕ) (text : List ℕ) → length out < at + 48
-    → placed out at text ≡ record { bytes = out; next = at }
-unfolding placed
-placed-full out at text h = simp (lt-leb (at + 48) (length out) h)
+pub no-room : (out : List ℕ) (at : ℕ) (text : List ℕ) → length out < at + 48
+    → inRoom out at text ≡ record { bytes = out; next = at }
+unfolding inRoom
+no-room out at text h = simp (lt-leb (at + 48) (length out) h)
 
 same : (t : Bool) (w : Written) → cond t w w ≡ w
 same true w = refl
 same false w = refl
 
-pub nothing-placed : (out : List ℕ) → (0 ≡ placed out 0 [] .next) × (out ≡ placed out 0 [] .bytes)
-unfolding placed
-nothing-placed out =
+pub nothing-in-room : (out : List ℕ) → (0 ≡ inRoom out 0 [] .next) × (out ≡ inRoom out 0 [] .bytes)
+unfolding inRoom
+nothing-in-room out =
     rw (written-nothing out 0 (omega arith), same (leb (0 + 48) (length out)) (record { bytes = out; next = 0 })) (refl, refl)
 
 -- 48 bytes are room for every answer and its LF

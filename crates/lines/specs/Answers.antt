@@ -54,5 +54,5 @@ lineText line = answerText (questionOf line) ++ (10 ∷ [])
 
 -- text in place of out's bytes from index at on, where at least 48 stand there, the room that every answer has; else out
 -- as it is
-unfoldable pub placed : List ℕ → ℕ → List ℕ → Written
-placed out at text = cond (leb (at + 48) (length out)) (written out at text) (record { bytes = out; next = at })
+unfoldable pub inRoom : List ℕ → ℕ → List ℕ → Written
+inRoom out at text = cond (leb (at + 48) (length out)) (written out at text) (record { bytes = out; next = at })

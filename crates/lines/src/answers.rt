@@ -6,7 +6,7 @@ ghost use Rattle.instant.specs.Answers.{readEncoded, readDecoded};
 ghost use Rattle.decimal.specs.Write.{showInt};
 ghost use Rattle.texts.specs.Buffer.{written};
 ghost use Rattle.lines.specs.Questions.{narrowed};
-ghost use Rattle.lines.specs.Answers.{badLine, refusedText, instantText, decodedText, encodedText, answerText, placed, lineText};
+ghost use Rattle.lines.specs.Answers.{badLine, refusedText, instantText, decodedText, encodedText, answerText, inRoom, lineText};
 use crate::questions::Question;
 use crate::questions::question_in;
 use decimal::text_of;
@@ -125,8 +125,8 @@ fn put_answer(out: &mut [u8], at: usize, question: Question) -> usize
 // Puts the answer to a line, which is without its LF, into out from index `at` on, and answers the index behind it. Where
 // there is less room than every answer has, out stays as it is and the answer is `at`.
 pub fn answer_line(line: &[u8], out: &mut [u8], at: usize) -> usize
-    ensures { λ r. ⌜ r ≡ placed (now (out .entry)) at (lineText (now (line .entry))) .next ⌝ }
-    ensures { λ r. ⌜ now (out .exit) ≡ placed (now (out .entry)) at (lineText (now (line .entry))) .bytes ⌝ }
+    ensures { λ r. ⌜ r ≡ inRoom (now (out .entry)) at (lineText (now (line .entry))) .next ⌝ }
+    ensures { λ r. ⌜ now (out .exit) ≡ inRoom (now (out .entry)) at (lineText (now (line .entry))) .bytes ⌝ }
 {
     if out.len() < at {
         return at;

@@ -14,7 +14,7 @@ use lib.Seq.{drop-cons, take-suc, take-at, drop-at, drop-drop, length-take-le}
 use Rattle.line_input.specs.Held.{Kept, holds, lineIn, kept}
 use Rattle.texts.specs.Buffer.{Written}
 use Rattle.texts.proofs.Putting.{pasted, fits}
-use Rattle.stream.specs.Stream.{After, step, then, steps, taken, Feeds}
+use Rattle.stream.specs.Stream.{After, afterByte, then, afterBytes, taken, Feeds}
 use Rattle.lines.proofs.Texts.{Puts, length-line}
 
 -- a byte's text is at most a line's
@@ -23,26 +23,26 @@ either : (t : Bool) (xs : List ℕ) (h k : Kept) → length xs ≤ 42
 either true xs h k l = l
 either false xs h k l = omega arith
 
-pub length-step : (h : Kept) (b : ℕ) → length (step h b .text) ≤ 42
-unfolding step
-length-step h b =
+pub length-after : (h : Kept) (b : ℕ) → length (afterByte h b .text) ≤ 42
+unfolding afterByte
+length-after h b =
     either (eqb b 10) _ (holds (h .bytes) 0) (kept h b) (length-line (lineIn h))
 
 -- input in two parts is the same as the whole
-pub in-parts : (h : Kept) (xs ys : List ℕ) → steps h (xs ++ ys) ≡ then (steps h xs .text) (steps (steps h xs .held) ys)
-unfolding steps
+pub in-parts : (h : Kept) (xs ys : List ℕ) → afterBytes h (xs ++ ys) ≡ then (afterBytes h xs .text) (afterBytes (afterBytes h xs .held) ys)
+unfolding afterBytes
 in-parts h [] ys = refl
-in-parts h (b ∷ bs) ys = rw (in-parts (step h b .held) bs ys, append-assoc)
+in-parts h (b ∷ bs) ys = rw (in-parts (afterByte h b .held) bs ys, append-assoc)
 
 -- one byte more
 one-more : (h : Kept) (block : List ℕ) (i : ℕ) → i < length block
-    → steps h (take (i + 1) block) ≡ then (steps h (take i block) .text) (step (steps h (take i block) .held) (getD block i 0))
-unfolding steps
+    → afterBytes h (take (i + 1) block) ≡ then (afterBytes h (take i block) .text) (afterByte (afterBytes h (take i block) .held) (getD block i 0))
+unfolding afterBytes
 one-more h block i g = rw (add-one i, take-suc block i 0 g, in-parts h (take i block) (getD block i 0 ∷ []), append-nil)
 
 -- bytes are taken while there is room
 taken-more : (h : Kept) (b : ℕ) (bs : List ℕ) (room : ℕ) → 48 ≤ room
-    → taken h (b ∷ bs) room ≡ suc (taken (step h b .held) bs (room - length (step h b .text)))
+    → taken h (b ∷ bs) room ≡ suc (taken (afterByte h b .held) bs (room - length (afterByte h b .text)))
 unfolding taken
 taken-more h b bs room l = simp (le-leb 48 room l)
 
@@ -61,20 +61,20 @@ module _ (h : Kept) (block old : List ℕ) where
     pub within : i ≤ length block
     pub wide : length out ≡ length old
     pub small : at ≤ length old
-    pub so-far : steps h (take i block) ≡ record { text = take at out; held = holds bytes n }
+    pub so-far : afterBytes h (take i block) ≡ record { text = take at out; held = holds bytes n }
     pub tail : drop at out ≡ drop at old
     pub left : taken h block (length old) ≡ i + taken (holds bytes n) (drop i block) (length old - at)
 
   module _ {bytes out : List ℕ} {n at i : ℕ} (d : Feeding bytes out n at i) where
     pub feed-more : {bytes′ out′ : List ℕ} {n′ at′ : ℕ} → i < length block → at + 48 ≤ length out
-        → holds bytes′ n′ ≡ step (holds bytes n) (getD block i 0) .held
-        → Puts out at (step (holds bytes n) (getD block i 0) .text) at′ out′
+        → holds bytes′ n′ ≡ afterByte (holds bytes n) (getD block i 0) .held
+        → Puts out at (afterByte (holds bytes n) (getD block i 0) .text) at′ out′
         → length out′ ≡ length out → Feeding bytes′ out′ n′ at′ (i + 1)
     feed-more {bytes′} {out′} {n′} {at′} g room hold put same =
         let b = getD block i 0 in
-        let s = step (holds bytes n) b in
+        let s = afterByte (holds bytes n) b in
         let t = s .text in
-        let short = length-step (holds bytes n) b in
+        let short = length-after (holds bytes n) b in
         let f = fits out at t (omega arith) in
         let to : at′ ≡ at + length t = put .0 ∙ ap (λ (w : Written). w .next) f in
         let now : out′ ≡ pasted out at t = put .1 ∙ ap (λ (w : Written). w .bytes) f in
@@ -111,7 +111,7 @@ module _ (h : Kept) (block old : List ℕ) where
 
 -- before the first byte
 pub feed-start : (bytes : List ℕ) (n : ℕ) (block out : List ℕ) → Feeding (holds bytes n) block out bytes out n 0 0
-unfolding steps
+unfolding afterBytes
 feed-start bytes n block out =
     record {
       within = omega arith;

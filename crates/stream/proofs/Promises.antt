@@ -13,15 +13,15 @@ use lib.Seq.{length-take-le, take-suc-set}
 use Rattle.line_input.specs.Held.{Kept, holds, lineIn, kept}
 use Rattle.lines.specs.Questions.{questionOf}
 use Rattle.lines.specs.Answers.{badLine, answerText, lineText}
-use Rattle.stream.specs.Stream.{After, step, steps, taken, lastText}
+use Rattle.stream.specs.Stream.{After, afterByte, afterBytes, taken, lastText}
 use Rattle.stream.specs.Promises.{linesBehind, answersTo, outputOf, inBlocks, joined, whole, AnyBlocks, Progress, OneAnswer}
 use Rattle.stream.proofs.Feeding.{in-parts}
 
 -- blocks leave what their bytes as one input leave
-as-one : (h : Kept) (blocks : List (List ℕ)) → inBlocks h blocks ≡ steps h (joined blocks)
-unfolding inBlocks joined steps
+as-one : (h : Kept) (blocks : List (List ℕ)) → inBlocks h blocks ≡ afterBytes h (joined blocks)
+unfolding inBlocks joined afterBytes
 as-one h [] = refl
-as-one h (block ∷ blocks) = rw (as-one (steps h block .held) blocks) (sym (in-parts h block (joined blocks)))
+as-one h (block ∷ blocks) = rw (as-one (afterBytes h block .held) blocks) (sym (in-parts h block (joined blocks)))
 
 -- what is held of a line: all of it, or 65 bytes of a line that has as many or more
 data Held (bytes : List ℕ) (n : ℕ) (line : List ℕ) : Type 0 where
@@ -63,33 +63,33 @@ longer {bytes} {n} {line} b false e room (too-long f h) =
 abbrev FromHere : List ℕ → Type 0
 FromHere input =
     (bytes : List ℕ) (n : ℕ) (line : List ℕ) → length bytes ≡ 65 → Held bytes n line
-    → whole (steps (holds bytes n) input) ≡ answersTo (linesBehind line input)
+    → whole (afterBytes (holds bytes n) input) ≡ answersTo (linesBehind line input)
 
 at-end : (t : Bool) (line : List ℕ) → cond t [] (lineText line) ≡ answersTo (cond t [] (line ∷ []))
 unfolding answersTo
 at-end true line = refl
 at-end false line = sym (append-nil (lineText line))
 
-step-end : (h : Kept) (b : ℕ) → eqb b 10 ≡ true → step h b ≡ record { text = lineText (lineIn h); held = holds (h .bytes) 0 }
-unfolding step
-step-end h b e = simp e
+byte-end : (h : Kept) (b : ℕ) → eqb b 10 ≡ true → afterByte h b ≡ record { text = lineText (lineIn h); held = holds (h .bytes) 0 }
+unfolding afterByte
+byte-end h b e = simp e
 
-step-more : (h : Kept) (b : ℕ) → eqb b 10 ≡ false → step h b ≡ record { text = []; held = kept h b }
-unfolding step
-step-more h b e = simp e
+byte-more : (h : Kept) (b : ℕ) → eqb b 10 ≡ false → afterByte h b ≡ record { text = []; held = kept h b }
+unfolding afterByte
+byte-more h b e = simp e
 
 at-byte : (b : ℕ) (input : List ℕ) (t : Bool) → eqb b 10 ≡ t → FromHere input → FromHere (b ∷ input)
-unfolding steps linesBehind answersTo
+unfolding afterBytes linesBehind answersTo
 at-byte b input true e rest bytes n line room held =
-    rw (step-end (holds bytes n) b e, e)
-    (append-assoc (lineText (take n bytes)) (steps (holds bytes 0) input .text) (lastText (steps (holds bytes 0) input .held))
+    rw (byte-end (holds bytes n) b e, e)
+    (append-assoc (lineText (take n bytes)) (afterBytes (holds bytes 0) input .text) (lastText (afterBytes (holds bytes 0) input .held))
     ∙ rw (same-text room held, rest bytes 0 [] room (all-of-it refl (omega arith))))
 at-byte b input false e rest bytes n line room held =
     let l = longer b (ltb n (length bytes)) refl room held in
-    rw (step-more (holds bytes n) b e, e) (rest _ _ _ (l .1) (l .0))
+    rw (byte-more (holds bytes n) b e, e) (rest _ _ _ (l .1) (l .0))
 
 from-here : (input : List ℕ) → FromHere input
-unfolding steps lastText linesBehind
+unfolding afterBytes lastText linesBehind
 from-here [] bytes n line room held = rw (same-text room held, same-count room held) (at-end (eqb (length line) 0) line)
 from-here (b ∷ input) bytes n line room held = at-byte b input (eqb b 10) refl (from-here input) bytes n line room held
 
@@ -106,7 +106,7 @@ some-of false k n l = omega arith
 no-more : (h : Kept) (block : List ℕ) (room : ℕ) → taken h block room ≤ length block
 unfolding taken
 no-more h [] room = omega arith
-no-more h (b ∷ bs) room = some-of (leb 48 room) _ (length bs) (no-more (step h b .held) bs (room - length (step h b .text)))
+no-more h (b ∷ bs) room = some-of (leb 48 room) _ (length bs) (no-more (afterByte h b .held) bs (room - length (afterByte h b .text)))
 
 pub progress : Progress
 unfolding taken
@@ -116,7 +116,7 @@ progress h (b ∷ bs) room l some = (simp (le-leb 48 room l) (omega arith), no-m
 pub one-answer : OneAnswer
 one-answer h block out r s bytes others new other p q =
     let taking = p .took ∙ sym (q .took) in
-    let after : steps h (take (r .taken) block) ≡ steps h (take (s .taken) block) = ap (λ (k : ℕ). steps h (take k block)) taking in
+    let after : afterBytes h (take (r .taken) block) ≡ afterBytes h (take (s .taken) block) = ap (λ (k : ℕ). afterBytes h (take k block)) taking in
     let held = p .keeps ∙ ap (λ (a : After). a .held) after ∙ sym (q .keeps) in
     let wrote = p .wrote ∙ ap (λ (a : After). length (a .text)) after ∙ sym (q .wrote) in (
       (λ i. record { taken = taking i; held = held i .count; wrote = wrote i }),

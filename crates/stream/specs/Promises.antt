@@ -7,7 +7,7 @@ use lib.Dec.{eqb}
 use lib.ListN.{length}
 use Rattle.line_input.specs.Held.{Kept, holds}
 use Rattle.lines.specs.Answers.{lineText}
-use Rattle.stream.specs.Stream.{After, then, steps, taken, Feeds, lastText}
+use Rattle.stream.specs.Stream.{After, then, afterBytes, taken, Feeds, lastText}
 use Rattle.stream.specs.declared.Fed.{Fed}
 
 -- ---- the whole input
@@ -32,7 +32,7 @@ outputOf input = answersTo (linesBehind [] input)
 -- blocks, one after the other
 unfoldable pub inBlocks : Kept → List (List ℕ) → After
 inBlocks h [] = record { text = []; held = h }
-inBlocks h (block ∷ blocks) = then (steps h block .text) (inBlocks (steps h block .held) blocks)
+inBlocks h (block ∷ blocks) = then (afterBytes h block .text) (inBlocks (afterBytes h block .held) blocks)
 
 -- their bytes as one input
 unfoldable pub joined : List (List ℕ) → List ℕ

@@ -15,8 +15,8 @@ pub record After : Type 0 where
   pub held : Kept
 
 -- one byte: an LF has the line answered, and any other byte is held where there is room
-unfoldable pub step : Kept → ℕ → After
-step h b =
+unfoldable pub afterByte : Kept → ℕ → After
+afterByte h b =
     cond (eqb b 10) (record { text = lineText (lineIn h); held = holds (h .bytes) 0 })
     (record { text = []; held = kept h b })
 
@@ -25,22 +25,22 @@ abbrev pub then : List ℕ → After → After
 then text a = record { text = text ++ a .text; held = a .held }
 
 -- the bytes of a block, one after the other
-unfoldable pub steps : Kept → List ℕ → After
-steps h [] = record { text = []; held = h }
-steps h (b ∷ bs) = then (step h b .text) (steps (step h b .held) bs)
+unfoldable pub afterBytes : Kept → List ℕ → After
+afterBytes h [] = record { text = []; held = h }
+afterBytes h (b ∷ bs) = then (afterByte h b .text) (afterBytes (afterByte h b .held) bs)
 
 -- how many bytes of a block are taken at once: each before which room is left for any answer, 48 bytes
 unfoldable pub taken : Kept → List ℕ → ℕ → ℕ
 taken h [] room = 0
-taken h (b ∷ bs) room = cond (leb 48 room) (suc (taken (step h b .held) bs (room - length (step h b .text)))) 0
+taken h (b ∷ bs) room = cond (leb 48 room) (suc (taken (afterByte h b .held) bs (room - length (afterByte h b .text)))) 0
 
 -- what a call leaves that was fed a block, with h held before: the bytes that it took have gone through the stream, their
 -- text stands at the start of out, and the other bytes of out are as they were
 pub record Feeds (h : Kept) (block out : List ℕ) (r : Fed) (bytes new : List ℕ) : Type 0 where
   pub took : r .taken ≡ taken h block (length out)
-  pub keeps : holds bytes (r .held) ≡ steps h (take (r .taken) block) .held
-  pub wrote : r .wrote ≡ length (steps h (take (r .taken) block) .text)
-  pub text : new ≡ steps h (take (r .taken) block) .text ++ drop (r .wrote) out
+  pub keeps : holds bytes (r .held) ≡ afterBytes h (take (r .taken) block) .held
+  pub wrote : r .wrote ≡ length (afterBytes h (take (r .taken) block) .text)
+  pub text : new ≡ afterBytes h (take (r .taken) block) .text ++ drop (r .wrote) out
 
 -- the answer to what is held when the input has ended, a last line that lacks its LF: where nothing is, there is no line
 unfoldable pub lastText : Kept → List ℕ

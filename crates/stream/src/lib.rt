@@ -8,8 +8,8 @@ ghost use Prim.Native.Nat.{_+_, _≤_};
 ghost use lib.ListN.{length};
 ghost use Rattle.texts.specs.Buffer.{written};
 ghost use Rattle.line_input.specs.Held.{holds};
-ghost use Rattle.lines.specs.Answers.{placed};
-ghost use Rattle.stream.specs.Stream.{step, lastText, Feeds};
+ghost use Rattle.lines.specs.Answers.{inRoom};
+ghost use Rattle.stream.specs.Stream.{afterByte, lastText, Feeds};
 use line_input::keep;
 use lines::ROOM;
 use lines::answer_line;
@@ -32,9 +32,9 @@ struct Step {
 // One byte of the stream: an LF has its line answered, and any other byte is held.
 fn take_byte(held: &mut [u8; 65], n: usize, b: u8, out: &mut [u8], at: usize) -> Step
     requires { ⌜ at + 48 ≤ length (now out) ⌝ }
-    ensures { λ r. ⌜ holds (now (held .exit)) (r .held) ≡ step (holds (now (held .entry)) n) b .held ⌝ }
-    ensures { λ r. ⌜ r .next ≡ written (now (out .entry)) at (step (holds (now (held .entry)) n) b .text) .next ⌝ }
-    ensures { λ r. ⌜ now (out .exit) ≡ written (now (out .entry)) at (step (holds (now (held .entry)) n) b .text) .bytes ⌝ }
+    ensures { λ r. ⌜ holds (now (held .exit)) (r .held) ≡ afterByte (holds (now (held .entry)) n) b .held ⌝ }
+    ensures { λ r. ⌜ r .next ≡ written (now (out .entry)) at (afterByte (holds (now (held .entry)) n) b .text) .next ⌝ }
+    ensures { λ r. ⌜ now (out .exit) ≡ written (now (out .entry)) at (afterByte (holds (now (held .entry)) n) b .text) .bytes ⌝ }
 {
     if b == b'\n' {
         let next = answer_line(first(held, n), out, at);
@@ -78,8 +78,8 @@ pub fn feed(held: &mut [u8; 65], n: usize, block: &[u8], out: &mut [u8]) -> Fed
 // Puts the answer to a last line that lacks its LF at the start of out, and answers how many bytes that are: 0 where
 // nothing is held, which is no line, and where out has no room for any answer.
 pub fn last_line(held: &[u8; 65], n: usize, out: &mut [u8]) -> usize
-    ensures { λ r. ⌜ r ≡ placed (now (out .entry)) 0 (lastText (holds (now (held .entry)) n)) .next ⌝ }
-    ensures { λ r. ⌜ now (out .exit) ≡ placed (now (out .entry)) 0 (lastText (holds (now (held .entry)) n)) .bytes ⌝ }
+    ensures { λ r. ⌜ r ≡ inRoom (now (out .entry)) 0 (lastText (holds (now (held .entry)) n)) .next ⌝ }
+    ensures { λ r. ⌜ now (out .exit) ≡ inRoom (now (out .entry)) 0 (lastText (holds (now (held .entry)) n)) .bytes ⌝ }
 {
     if n == 0 {
         return 0;

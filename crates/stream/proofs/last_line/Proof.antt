@@ -2,13 +2,13 @@
 use borrow.Author.Needs.{needs}
 use borrow.Author.Tests.{eq-eqb, ne-eqb}
 use Rattle.stream.specs.Stream.{lastText}
-use Rattle.lines.proofs.Texts.{nothing-placed}
+use Rattle.lines.proofs.Texts.{nothing-in-room}
 use Rattle.stream.proofs.last_line.Statement.{statement}
 use Rattle.stream.proofs.last_line.Tie as tie
 
 returns : tie.Need-returns
 unfolding lastText
-returns c = simp (eq-eqb _ _ (c .if1 .taken)) (nothing-placed (c .before .before .args .out .now))
+returns c = simp (eq-eqb _ _ (c .if1 .taken)) (nothing-in-room (c .before .before .args .out .now))
 
 first-requires : tie.Need-first-requires
 first-requires c κs = search needs

@@ -3,8 +3,8 @@ use borrow.Author.Needs.{needs}
 use mathlib.Core.Path.{refl}
 use native.Mathlib.Omega.{arith}
 use borrow.Author.Tests.{eq-eqb, ne-eqb}
-use Rattle.stream.specs.Stream.{step}
-use Rattle.lines.proofs.Texts.{nothing-put, placed-room}
+use Rattle.stream.specs.Stream.{afterByte}
+use Rattle.lines.proofs.Texts.{nothing-put, in-room}
 use Rattle.stream.proofs.take_byte.Statement.{statement}
 use Rattle.stream.proofs.take_byte.Tie as tie
 
@@ -18,19 +18,19 @@ same-length : tie.Need-same-length
 same-length c = search needs
 
 returns : tie.Need-returns
-unfolding step
+unfolding afterByte
 returns c =
     let line = c .before .before .before .before in
     let start = line .before .before .before .before .before in
     let out = start .args .out .now in
     simp (eq-eqb _ _ (line .before .before .before .if1 .taken))
-    (refl, rw (line .first .ensures, placed-room out (start .args .at) _ (omega arith)) at (c .before .before .answer-line .ensures))
+    (refl, rw (line .first .ensures, in-room out (start .args .at) _ (omega arith)) at (c .before .before .answer-line .ensures))
 
 keep-requires : tie.Need-keep-requires
 keep-requires c κs = search needs
 
 returns-2 : tie.Need-returns-2
-unfolding step
+unfolding afterByte
 returns-2 c =
     let e = c .keep .ensures in
     let start = c .before .before .before .before in

@@ -5,14 +5,14 @@ use mathlib.Core.List.{[], _∷_}
 use native.Mathlib.Omega.{arith}
 use Rattle.lines.specs.Questions.{questionOf}
 use Rattle.lines.specs.Answers.{answerText, lineText}
-use Rattle.lines.proofs.Texts.{puts-then, placed-room, placed-full, length-line}
+use Rattle.lines.proofs.Texts.{puts-then, in-room, no-room, length-line}
 use Rattle.lines.proofs.answers.answer_line.Statement.{statement}
 use Rattle.lines.proofs.answers.answer_line.Tie as tie
 
 returns : tie.Need-returns
 returns c =
     let a = c .before .before .before .args in
-    rw (placed-full (a .out .now) (a .at) _ (omega arith)) (refl, refl)
+    rw (no-room (a .out .now) (a .at) _ (omega arith)) (refl, refl)
 
 sub-if2 : tie.Need-sub-if2
 sub-if2 c = search needs
@@ -20,7 +20,7 @@ sub-if2 c = search needs
 returns-2 : tie.Need-returns-2
 returns-2 c =
     let a = c .before .before .before .before .args in
-    rw (placed-full (a .out .now) (a .at) _ (omega arith)) (refl, refl)
+    rw (no-room (a .out .now) (a .at) _ (omega arith)) (refl, refl)
 
 question-in-requires : tie.Need-question-in-requires
 question-in-requires c κs = search needs
@@ -45,7 +45,7 @@ returns-3 c =
     let a = start .args in
     let q = answer .before .question-in in
     let text = answerText (questionOf (a .line .now)) in
-    rw (placed-room (a .out .now) (a .at) _ (omega arith))
+    rw (in-room (a .out .now) (a .at) _ (omega arith))
     (puts-then (a .out .now) (a .at) text (10 ∷ []) (omega (arith, length-line (a .line .now))) (rw (q .ensures) at (answer .put-answer .ensures))
     (c .before .before .put .ensures))
 
