@@ -45,9 +45,9 @@ fi
 # The program that answers for the composites; without it they are not compared, and the report says so.
 case ${1:-} in
 --inputs | --seed | '')
-    if [ ! -x target/bin/composites ] && command -v rt >/dev/null 2>&1; then
-        echo "compare.sh: proving and building the program composites, a few minutes" >&2
-        rt check composites >target/compare.log 2>&1 || cat target/compare.log >&2
+    if [ ! -x target/bin/replay ] && command -v rt >/dev/null 2>&1; then
+        echo "compare.sh: proving and building the program replay, a few minutes" >&2
+        rt check replay >target/compare.log 2>&1 || cat target/compare.log >&2
     fi
     ;;
 esac

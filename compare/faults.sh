@@ -1,7 +1,7 @@
 #!/bin/sh
 # faults.sh: does the comparison find faults? Lays a copy of the static library in target/faults with the faults of
 # faults/faults.c before its two calls, and runs the seeded comparison once for each of them: it has to find every one, and
-# nothing where none is planted. Faults of the composites are planted in what their program writes. It needs a C compiler and
+# nothing where none is planted. Faults of the composites are planted in what the program `replay` writes. It needs a C compiler and
 # objcopy beside what build.sh needs. What each run said stays in target/faults.
 set -u
 cd "$(dirname "$0")/.." || exit 2

@@ -1,17 +1,16 @@
 #!/bin/sh
 # record.sh LIST: makes a list of answers anew from the Rust's side, over jiff 0.1.28. build.sh says what that needs. Lists:
-#   calendar   asks the real jiff crate; writes crates/replay_calendar/stdin and stdout
-#   words      asks timeglyph's src/registry.rs over the real jiff crate; writes crates/stamps/stdin and stdout
-#   composites asks timeglyph's src/compose.rs over the real jiff crate; writes crates/composites/stdin and stdout
+#   words    asks timeglyph's src/registry.rs over the real jiff crate; writes crates/stamps/stdin and stdout
+#   replay   asks the real jiff crate, and timeglyph's src/registry.rs and src/compose.rs over it; writes crates/replay/stdin and
+#            stdout
 set -eu
 cd "$(dirname "$0")/.."
 list=${1:-}
 case $list in
-calendar) folder=crates/replay_calendar ;;
 words) folder=crates/stamps ;;
-composites) folder=crates/composites ;;
+replay) folder=crates/replay ;;
 *)
-    echo "usage: compare/record.sh calendar | words | composites" >&2
+    echo "usage: compare/record.sh words | replay" >&2
     exit 2
     ;;
 esac

@@ -1,4 +1,4 @@
-//! The six composites: the Rust asked in this process, and this project's program `composites` by lines of text.
+//! The six composites: the Rust asked in this process, and this project's program `replay` by lines of text.
 
 use crate::guarded::guarded;
 use crate::known::NO_CARRY;
@@ -12,7 +12,7 @@ use std::process::{Command, Stdio};
 use std::thread;
 
 /// Runs a program of this project, from the repository's root.
-const RUN: [&str; 2] = ["tools/run-program", "composites"];
+const RUN: [&str; 2] = ["tools/run-program", "replay"];
 
 /// The questions that a run of the program is asked.
 pub const AT_ONCE: usize = 1 << 17;

@@ -1,14 +1,14 @@
-//! Questions on the composites: a letter and two numbers, or a letter and a stamp, whose bytes are pairs of lower-case hex
-//! digits.
+//! Questions on the composites, as the program `replay` is asked: a word and two numbers, or a word and a stamp, whose bytes
+//! are pairs of lower-case hex digits, and `-` where there are none.
 //!
 //! | question | asks |
 //! |---|---|
-//! | `f LOW HIGH` | `filetime_hilo`, of two u32 |
-//! | `v HIGH LOW` | `vmsd`, of two i32 |
-//! | `u SECONDS NANOS` | `unix_sec_nsec`, of an i64 and a u32 |
-//! | `o HEX` | `oracle_date` |
-//! | `c HEX` | `cp56time2a` |
-//! | `t HEX` | `udf` |
+//! | `filetime LOW HIGH` | `filetime_hilo`, of two u32 |
+//! | `vmsd HIGH LOW` | `vmsd`, of two i32 |
+//! | `unix SECONDS NANOS` | `unix_sec_nsec`, of an i64 and a u32 |
+//! | `oracle HEX` | `oracle_date` |
+//! | `cp56 HEX` | `cp56time2a` |
+//! | `udf HEX` | `udf` |
 
 pub mod number_boundaries;
 pub mod random;
@@ -32,11 +32,14 @@ pub enum Question {
 impl fmt::Display for Question {
     fn fmt(&self, out: &mut fmt::Formatter) -> fmt::Result {
         match self {
-            Question::Filetime { low, high } => write!(out, "f {low} {high}"),
-            Question::Vmsd { high, low } => write!(out, "v {high} {low}"),
-            Question::UnixSecNsec { seconds, nanos } => write!(out, "u {seconds} {nanos}"),
+            Question::Filetime { low, high } => write!(out, "filetime {low} {high}"),
+            Question::Vmsd { high, low } => write!(out, "vmsd {high} {low}"),
+            Question::UnixSecNsec { seconds, nanos } => write!(out, "unix {seconds} {nanos}"),
+            Question::Stamp { written, bytes } if bytes.is_empty() => {
+                write!(out, "{} -", written.word())
+            }
             Question::Stamp { written, bytes } => {
-                write!(out, "{} ", written.letter())?;
+                write!(out, "{} ", written.word())?;
                 bytes.iter().try_for_each(|byte| write!(out, "{byte:02x}"))
             }
             Question::None(text) => write!(out, "{text}"),

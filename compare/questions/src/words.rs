@@ -1,4 +1,5 @@
-//! Questions on the sixteen words: `d LAYOUT WORD` and `e LAYOUT SECONDS NANOS`.
+//! Questions on the sixteen words: `d LAYOUT WORD` and `e LAYOUT SECONDS NANOS` in the line program, `decode` and `encode` in
+//! the program `replay`.
 
 pub mod instant_boundaries;
 pub mod layouts;
@@ -31,6 +32,20 @@ impl fmt::Display for Question {
                 seconds,
                 nanos,
             } => write!(out, "e {layout} {seconds} {nanos}"),
+        }
+    }
+}
+
+impl Question {
+    /// As the program `replay` is asked, where the line program has a letter.
+    pub fn by_word(&self) -> String {
+        match self {
+            Question::Decode { layout, word } => format!("decode {layout} {word}"),
+            Question::Encode {
+                layout,
+                seconds,
+                nanos,
+            } => format!("encode {layout} {seconds} {nanos}"),
         }
     }
 }

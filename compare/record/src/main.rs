@@ -1,64 +1,66 @@
 //! record LIST FOLDER: makes the list LIST, writes its questions to FOLDER/stdin and the answers of the Rust's side to
-//! FOLDER/stdout, line for line, and says what it wrote. In the calendar's list each answer stands twice, since the program
-//! that replays it has two engines answer each question.
+//! FOLDER/stdout, line for line, and says what it wrote.
 
 mod calendar;
 mod composites;
 mod lists;
+mod replay;
 mod words;
 
-use lists::{Line, Part};
+use lists::{Line, List, Part, BAD_LINE};
 use questions::calendar::jiff_tests_its_window;
 use std::collections::BTreeMap;
 use std::path::Path;
 use std::{env, fs, io, process};
 
-/// The longest line that the programs replaying a list read, its LF not counted.
-const LONGEST_LINE: usize = 64;
-
 fn main() {
     let arguments: Vec<String> = env::args().skip(1).collect();
-    let [list, folder] = arguments.as_slice() else {
+    let [name, folder] = arguments.as_slice() else {
         usage()
     };
     assert!(
         jiff_tests_its_window(),
         "this jiff takes nanoseconds outside its own window: no oracle for `refused 6`"
     );
-    let (seed, parts, times) = match list.as_str() {
-        "calendar" => (calendar::SEED, calendar::list(), 2),
-        "words" => (words::SEED, words::list(), 1),
-        "composites" => (composites::SEED, composites::list(), 1),
+    let list = match name.as_str() {
+        "words" => words::list(),
+        "replay" => replay::list(),
         _ => usage(),
     };
-    if let Err(error) = write(Path::new(folder), &parts, times) {
+    if let Err(error) = write(Path::new(folder), &list) {
         eprintln!("record: {folder}: {error}");
         process::exit(1);
     }
-    println!("list {list}, jiff {}, seed {seed}", timeglyph::JIFF_VERSION);
-    for part in &parts {
+    let seeds: Vec<String> = list.seeds.iter().map(u64::to_string).collect();
+    let seeds = seeds.join(", ");
+    println!(
+        "list {name}, jiff {}, seeds {seeds}",
+        timeglyph::JIFF_VERSION
+    );
+    for part in &list.parts {
         println!("{}: {}", part.name, counts(&part.lines));
     }
-    println!("whole list: {}", counts(lines_of(&parts)));
-    for (answer, count) in refusals(&parts) {
+    println!("whole list: {}", counts(lines_of(&list.parts)));
+    for (answer, count) in refusals(&list.parts) {
         println!("{answer}: {count}");
     }
 }
 
 fn usage() -> ! {
-    eprintln!("usage: record calendar | words | composites FOLDER");
+    eprintln!("usage: record words | replay FOLDER");
     process::exit(2)
 }
 
-/// Writes the questions, and each answer so many times.
-fn write(folder: &Path, parts: &[Part], times: usize) -> io::Result<()> {
+/// Writes the questions and the answers, each a line.
+fn write(folder: &Path, list: &List) -> io::Result<()> {
     let mut questions = String::new();
     let mut answers = String::new();
-    for line in lines_of(parts) {
+    for line in lines_of(&list.parts) {
         append(&mut questions, &line.question);
-        for _ in 0..times {
-            append(&mut answers, &line.answer);
-        }
+        append(&mut answers, &line.answer);
+    }
+    if !list.ends_in_lf {
+        questions.pop();
     }
     fs::create_dir_all(folder)?;
     fs::write(folder.join("stdin"), questions)?;
@@ -67,7 +69,7 @@ fn write(folder: &Path, parts: &[Part], times: usize) -> io::Result<()> {
 
 fn append(text: &mut String, line: &str) {
     assert!(
-        line.is_ascii() && line.len() <= LONGEST_LINE,
+        line.is_ascii() && !line.contains('\n'),
         "not a line of a list: {line}"
     );
     text.push_str(line);
@@ -79,12 +81,13 @@ fn lines_of(parts: &[Part]) -> impl Iterator<Item = &Line> {
 }
 
 fn counts<'a>(lines: impl IntoIterator<Item = &'a Line>) -> String {
-    let (mut all, mut refused) = (0, 0);
+    let (mut all, mut refused, mut bad) = (0, 0, 0);
     for line in lines {
         all += 1;
         refused += usize::from(is_refused(line));
+        bad += usize::from(line.answer == BAD_LINE);
     }
-    format!("{all} lines, {refused} of them refused")
+    format!("{all} lines, {refused} of them refused, {bad} bad lines")
 }
 
 /// How often each refusal is an answer.

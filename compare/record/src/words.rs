@@ -1,5 +1,6 @@
-//! The list of the sixteen words. A question is `d LAYOUT WORD`, answered by `SECONDS NANOS`, or `e LAYOUT SECONDS NANOS`,
-//! answered by the word; a refusal is `refused N`, and a line that asks nothing is answered by `bad line`.
+//! The list of the sixteen words, for the line program. A question is `d LAYOUT WORD`, answered by `SECONDS NANOS`, or
+//! `e LAYOUT SECONDS NANOS`, answered by the word; a refusal is `refused N`, and a line that asks nothing is answered by
+//! `bad line`. Document 01's stamps are in the list of the program `replay` too, which asks by words.
 //!
 //! The answers are those of the codecs in timeglyph's own src/registry.rs. Its errors have no numbers: `rules` has them.
 
@@ -7,19 +8,27 @@ mod random;
 mod rules;
 mod stamps;
 
-pub use random::SEED;
-
-use crate::lists::{self, part, Line, Part};
+use crate::lists::{self, bad_line, part, Line, List, Part};
 use questions::once;
 use questions::rust_side::instant;
 use questions::splitmix::SplitMix;
 use questions::words::{each, instant_boundaries, word_boundaries, Question};
 
-pub fn list() -> Vec<Part> {
-    let mut numbers = SplitMix::new(SEED);
+const STAMPS: &str = "stamps of document 01";
+
+pub fn list() -> List {
+    List {
+        seeds: vec![random::SEED],
+        parts: parts(),
+        ends_in_lf: true,
+    }
+}
+
+fn parts() -> Vec<Part> {
+    let mut numbers = SplitMix::new(random::SEED);
     vec![
         example(),
-        lists::stamps(stamps::stamps(), line),
+        lists::stamps(STAMPS, stamps::stamps(), line),
         part("numbers outside", word_boundaries::numbers_outside(), line),
         part(
             "boundaries of words",
@@ -47,13 +56,36 @@ pub fn list() -> Vec<Part> {
 
 /// Document 01's whole example of the line program, its last line too, which asks nothing.
 fn example() -> Part {
-    let mut example = lists::stamps(stamps::example(), line);
-    example.name = "example of document 01";
-    example.lines.push(Line {
-        question: "x".to_string(),
-        answer: "bad line".to_string(),
-    });
+    let mut example = lists::stamps("example of document 01", stamps::example(), line);
+    example.lines.push(bad_line("x".to_string()));
     example
+}
+
+/// For the program `replay`.
+pub fn parts_by_word() -> Vec<Part> {
+    vec![
+        stamps_by_word(),
+        part(
+            "words, numbers outside",
+            word_boundaries::numbers_outside(),
+            line_by_word,
+        ),
+    ]
+}
+
+pub fn stamps_by_word() -> Part {
+    lists::stamps(
+        "words, stamps of document 01",
+        stamps::stamps(),
+        line_by_word,
+    )
+}
+
+fn line_by_word(question: &Question) -> Line {
+    Line {
+        question: question.by_word(),
+        ..line(question)
+    }
 }
 
 fn line(question: &Question) -> Line {

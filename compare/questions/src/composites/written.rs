@@ -16,11 +16,12 @@ pub type Civil = [i64; 6];
 impl Written {
     pub const ALL: [Written; 3] = [Written::Oracle, Written::Cp56, Written::Udf];
 
-    pub fn letter(self) -> char {
+    /// The first of a question on it.
+    pub fn word(self) -> &'static str {
         match self {
-            Written::Oracle => 'o',
-            Written::Cp56 => 'c',
-            Written::Udf => 't',
+            Written::Oracle => "oracle",
+            Written::Cp56 => "cp56",
+            Written::Udf => "udf",
         }
     }
 

@@ -1,17 +1,16 @@
--- `composites::run` is safe and ends: the buffers keep their lengths, and each turn leaves fewer turns.
--- Assumes nothing.
+-- `replay::run` is safe and ends: the buffers keep their lengths, and each turn leaves fewer turns. Assumes nothing.
 use mathlib.Core.Path.{_≡_}
 use native.Mathlib.Omega.{arith}
 use lib.ListN.{length}
-use Rattle.composites.proofs.run.Statement.{statement}
-use Rattle.composites.proofs.run.Tie as tie
+use Rattle.replay.proofs.run.Statement.{statement}
+use Rattle.replay.proofs.run.Tie as tie
 
 abbrev Inv-loop : tie.InvT-loop
-Inv-loop held₀ block₀ place₀ turns₀ held block place turns =
-    (length held ≡ length held₀) × (length block ≡ length block₀)
+Inv-loop held₀ block₀ out₀ place₀ turns₀ held block out place turns =
+    (length held ≡ length held₀) × (length block ≡ length block₀) × (length out ≡ length out₀)
 
 abbrev μ-loop : tie.MeasureT-loop
-μ-loop held₀ block₀ place₀ turns₀ held block place turns = turns
+μ-loop held₀ block₀ out₀ place₀ turns₀ held block out place turns = turns
 
 loop-holds : tie.Need-loop-holds Inv-loop μ-loop
 loop-holds c = omega arith
@@ -34,6 +33,9 @@ same-length c = omega arith
 same-length-2 : tie.Need-same-length-2 Inv-loop μ-loop
 same-length-2 c = omega arith
 
+same-length-3 : tie.Need-same-length-3 Inv-loop μ-loop
+same-length-3 c = omega arith
+
 returns : tie.Need-returns Inv-loop μ-loop
 returns c = omega arith
 
@@ -50,4 +52,5 @@ run-spec =
     loop-again
     same-length
     same-length-2
+    same-length-3
     returns)

@@ -1,12 +1,12 @@
--- `composites::hex::bytes_in` is safe: it reads two digits for each byte that it writes, and there is room for all of them.
+-- `replay::hex::pairs_in` is safe: it reads two digits for each byte that it writes, and there is room for all of them.
 -- Assumes nothing.
 use borrow.Author.Needs.{needs}
 use Prim.Native.Nat.{_+_, _-_, _≤_}
 use mathlib.Core.Path.{_≡_}
 use native.Mathlib.Omega.{arith}
 use lib.ListN.{length}
-use Rattle.composites.proofs.hex.bytes_in.Statement.{statement}
-use Rattle.composites.proofs.hex.bytes_in.Tie as tie
+use Rattle.replay.proofs.hex.pairs_in.Statement.{statement}
+use Rattle.replay.proofs.hex.pairs_in.Tie as tie
 
 abbrev Inv-loop : tie.InvT-loop
 Inv-loop text out₀ n i₀ out i = (i ≤ n) × (n + n ≤ length text) × (n ≤ length out) × (length out ≡ length out₀)
@@ -80,8 +80,8 @@ same-length-3 c = omega arith
 returns-5 : tie.Need-returns-5 Inv-loop μ-loop
 returns-5 c = search needs
 
-pub bytes-in-spec : {M : Type 1} → statement M
-bytes-in-spec =
+pub pairs-in-spec : {M : Type 1} → statement M
+pairs-in-spec =
     tie.close
     (tie.spec
     Inv-loop

@@ -1,4 +1,5 @@
-// Bytes as hex: two digits for each, lower-case.
+// Bytes as hex: two digits for each, lower-case, and `-` for no bytes.
+use check::same;
 
 // More than a digit is worth.
 const NO_DIGIT: u8 = 16;
@@ -26,9 +27,14 @@ pub enum Hex {
     Not,
 }
 
-// How many bytes all of text is, which stand in `out` then. Not where a byte is no digit, where a digit has no other, and
-// where `out` has no room.
-pub fn bytes_in(text: &[u8], out: &mut [u8]) -> Hex {
+// Room for the bytes of any line: half as many as the longest has.
+pub fn room() -> [u8; 16384] {
+    [0; 16384]
+}
+
+// How many bytes the pairs of text are, which stand at the start of `out` then. Not where a byte is no digit, where a digit has
+// no other, and where `out` has no room.
+fn pairs_in(text: &[u8], out: &mut [u8]) -> Hex {
     let n = text.len() / 2;
     if text.len() % 2 != 0 {
         return Hex::Not;
@@ -50,4 +56,15 @@ pub fn bytes_in(text: &[u8], out: &mut [u8]) -> Hex {
         i += 1;
     }
     Hex::Bytes(n)
+}
+
+// How many bytes all of text is, which stand at the start of `out` then. An empty text is none.
+pub fn bytes_in(text: &[u8], out: &mut [u8]) -> Hex {
+    if same(text, b"-") {
+        return Hex::Bytes(0);
+    }
+    if text.len() == 0 {
+        return Hex::Not;
+    }
+    pairs_in(text, out)
 }

@@ -1,0 +1,32 @@
+//! The list of the program `replay`: the calendar, document 01's stamps on the sixteen words, the composites, and lines that ask
+//! nothing. Its last line lacks its LF.
+
+mod bad_lines;
+mod long_lines;
+
+use crate::lists::{List, Part};
+use crate::{calendar, composites, words};
+
+pub fn list() -> List {
+    let mut parts = calendar::parts();
+    parts.extend(words::parts_by_word());
+    parts.extend(composites::parts());
+    parts.push(bad_lines::part());
+    parts.push(long_lines::part());
+    parts.push(last_line());
+    List {
+        seeds: vec![calendar::SEED, composites::SEED],
+        parts,
+        ends_in_lf: false,
+    }
+}
+
+/// A good question: the first of document 01's stamps again.
+fn last_line() -> Part {
+    let mut stamps = words::stamps_by_word();
+    stamps.lines.truncate(1);
+    Part {
+        name: "a last line without its LF",
+        lines: stamps.lines,
+    }
+}
