@@ -18,13 +18,13 @@
 //
 // Nothing is proved here of what is written: the program is safe, ends, and is run on lists of recorded answers.
 mod answers;
-mod byte_stamps;
-mod calendar;
+mod asks_byte_stamps;
+mod asks_calendar;
+mod asks_number_stamps;
+mod asks_words;
 mod hex;
-mod number_stamps;
 mod numbers;
 mod questions;
-mod words;
 
 use crate::questions::answer;
 use libc::STDIN_FILENO;

@@ -1,5 +1,5 @@
-// What a line asks: the word before its first space names the question, and each topic knows its own words. A topic puts its
-// answer into `out` and says how many bytes that are; it says 0 where the word is not one of its own.
+// What a line asks: the word before its first space names the question, and each topic, a module `asks_..`, knows its own
+// words. A topic puts its answer into `out` and says how many bytes that are; it says 0 where the word is not one of its own.
 use crate::answers::say_bad_line;
 use texts::after_space;
 use texts::before_space;
@@ -14,19 +14,19 @@ pub fn answer(line: &[u8], out: &mut [u8]) -> usize {
     }
     let word = before_space(line);
     let rest = after_space(line);
-    let on_calendar = crate::calendar::answer(word, rest, out);
+    let on_calendar = crate::asks_calendar::answer(word, rest, out);
     if 0 < on_calendar {
         return on_calendar;
     }
-    let on_words = crate::words::answer(word, rest, out);
+    let on_words = crate::asks_words::answer(word, rest, out);
     if 0 < on_words {
         return on_words;
     }
-    let on_numbers = crate::number_stamps::answer(word, rest, out);
+    let on_numbers = crate::asks_number_stamps::answer(word, rest, out);
     if 0 < on_numbers {
         return on_numbers;
     }
-    let on_bytes = crate::byte_stamps::answer(word, rest, out);
+    let on_bytes = crate::asks_byte_stamps::answer(word, rest, out);
     if 0 < on_bytes {
         return on_bytes;
     }
