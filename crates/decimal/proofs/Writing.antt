@@ -11,26 +11,26 @@ use lib.Dec.{ltb}
 use lib.IntN.{ℤ, pos, negsuc, natAbs}
 use lib.Signed.{mag}
 use lib.ListN.{length, length-append}
-use Rattle.decimal.specs.Write.{digits, showNat, showInt}
+use Rattle.decimal.specs.Write.{decimalDigits, showNat, showInt}
 
 -- one digit, and the last
-pub more-digits : (k n : ℕ) (t : List ℕ) → 10 ≤ n → digits (suc k) n ++ t ≡ digits k (n / 10) ++ ((48 + n % 10) ∷ t)
-unfolding digits
-more-digits k n t h = simp (le-ltb n 10 h) (append-assoc (digits k (n / 10)) ((48 + n % 10) ∷ []) t)
+pub more-digits : (k n : ℕ) (t : List ℕ) → 10 ≤ n → decimalDigits (suc k) n ++ t ≡ decimalDigits k (n / 10) ++ ((48 + n % 10) ∷ t)
+unfolding decimalDigits
+more-digits k n t h = simp (le-ltb n 10 h) (append-assoc (decimalDigits k (n / 10)) ((48 + n % 10) ∷ []) t)
 
-pub last-digit : (k n : ℕ) (t : List ℕ) → n < 10 → digits (suc k) n ++ t ≡ (48 + n) ∷ t
-unfolding digits
+pub last-digit : (k n : ℕ) (t : List ℕ) → n < 10 → decimalDigits (suc k) n ++ t ≡ (48 + n) ∷ t
+unfolding decimalDigits
 last-digit k n t h = simp (lt-ltb n 10 h)
 
 pub tenth : (k n : ℕ) → n < 10 ^ suc k → n / 10 < 10 ^ k
 tenth k n h = omega (arith, rw (pow-suc 10 k) at h)
 
 -- the same at a count k that goes down to k - 1
-pub down-more : (k n : ℕ) (t : List ℕ) → 0 < k → 10 ≤ n → digits k n ++ t ≡ digits (k - 1) (n / 10) ++ ((48 + n % 10) ∷ t)
+pub down-more : (k n : ℕ) (t : List ℕ) → 0 < k → 10 ≤ n → decimalDigits k n ++ t ≡ decimalDigits (k - 1) (n / 10) ++ ((48 + n % 10) ∷ t)
 down-more zero n t p h = absurd (omega arith)
 down-more (suc k) n t p h = let e : suc k - 1 ≡ k = omega arith in rw e (more-digits k n t h)
 
-pub down-last : (k n : ℕ) (t : List ℕ) → 0 < k → n < 10 → digits k n ++ t ≡ (48 + n) ∷ t
+pub down-last : (k n : ℕ) (t : List ℕ) → 0 < k → n < 10 → decimalDigits k n ++ t ≡ (48 + n) ∷ t
 down-last zero n t p h = absurd (omega arith)
 down-last (suc k) n t p h = last-digit k n t h
 
@@ -49,12 +49,12 @@ either : (t : Bool) (k : ℕ) (xs ys : List ℕ) → length xs ≤ k → length 
 either true k xs ys h g = h
 either false k xs ys h g = g
 
-length-digits : (k n : ℕ) → length (digits k n) ≤ k
-unfolding digits
+length-digits : (k n : ℕ) → length (decimalDigits k n) ≤ k
+unfolding decimalDigits
 length-digits zero n = omega arith
 length-digits (suc k) n =
-    either (ltb n 10) (suc k) ((48 + n) ∷ []) (digits k (n / 10) ++ ((48 + n % 10) ∷ [])) (omega arith)
-    (omega (arith, length-append (digits k (n / 10)) ((48 + n % 10) ∷ []), length-digits k (n / 10)))
+    either (ltb n 10) (suc k) ((48 + n) ∷ []) (decimalDigits k (n / 10) ++ ((48 + n % 10) ∷ [])) (omega arith)
+    (omega (arith, length-append (decimalDigits k (n / 10)) ((48 + n % 10) ∷ []), length-digits k (n / 10)))
 
 pub length-show : (n : ℕ) → length (showNat n) ≤ 19
 unfolding showNat

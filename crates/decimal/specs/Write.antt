@@ -8,13 +8,13 @@ use lib.ListN.{length, replicate}
 use Rattle.decimal.specs.declared.write.Text.{Text}
 
 -- n in decimal, in at most k digits
-unfoldable pub digits : ℕ → ℕ → List ℕ
-digits zero n = []
-digits (suc k) n = cond (ltb n 10) ((48 + n) ∷ []) (digits k (n / 10) ++ ((48 + n % 10) ∷ []))
+unfoldable pub decimalDigits : ℕ → ℕ → List ℕ
+decimalDigits zero n = []
+decimalDigits (suc k) n = cond (ltb n 10) ((48 + n) ∷ []) (decimalDigits k (n / 10) ++ ((48 + n % 10) ∷ []))
 
 -- n in decimal, where it is below 10^19, as the size of every signed 64-bit number is
 unfoldable pub showNat : ℕ → List ℕ
-showNat n = digits 19 n
+showNat n = decimalDigits 19 n
 
 -- z in decimal: `pos n` is n, and `negsuc n` is -(n + 1), written with a minus, the byte 45
 unfoldable pub showInt : ℤ → List ℕ

@@ -16,7 +16,7 @@ use Rattle.registry.specs.Words.{fieldsEncode, encodeBy, ruleFor, encodeWith, e
 use Rattle.registry.specs.declared.rules.Rule.{Rule}
 use Rattle.registry.specs.declared.rules.Rule.the-variants.{Civil, Gsm, NokiaLe, SqlServer}
 use Rattle.lines.specs.Questions.{narrowed}
-use Rattle.lines.specs.Answers.{instantOf}
+use Rattle.lines.specs.Answers.{instantAsked}
 use Rattle.lines.specs.Promises.{outside}
 
 -- 0 and each number above 16 have no rule
@@ -125,7 +125,7 @@ too-many-nanos (pos n) h = too-many n (ltb n 0) (ltb 999999999 n) (ltb 429496729
 too-many-nanos (negsuc n) h = omega arith
 
 pub nine : (layout seconds nanos : ℤ) → outside 1 16 layout ≡ false → outside 0 999999999 nanos ≡ true
-    → encodeFor (narrowed layout 0) (instantOf seconds nanos) ≡ refused 9
+    → encodeFor (narrowed layout 0) (instantAsked seconds nanos) ≡ refused 9
 nine layout seconds nanos h k =
     let l = inside layout h in
-    nine-inside (narrowed layout 0) (instantOf seconds nanos) (too-many-nanos nanos k) (l .0) (l .1)
+    nine-inside (narrowed layout 0) (instantAsked seconds nanos) (too-many-nanos nanos k) (l .0) (l .1)

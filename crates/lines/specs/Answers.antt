@@ -39,13 +39,13 @@ encodedText (gives word) = showInt word
 encodedText (refused n) = refusedText n
 
 -- nanoseconds that 32 bits do not hold are 2^32 - 1, which is refused under 9
-abbrev pub instantOf : ℤ → ℤ → Instant
-instantOf seconds nanos = record { seconds = seconds; nanos = narrowed nanos 4294967295 }
+abbrev pub instantAsked : ℤ → ℤ → Instant
+instantAsked seconds nanos = record { seconds = seconds; nanos = narrowed nanos 4294967295 }
 
 -- what the registry's definitions say; a layout that 32 bits do not hold is 0, which is refused under 1
 unfoldable pub answerText : Question → List ℕ
 answerText (question.Decode layout word) = decodedText (decodeFor (narrowed layout 0) (ofZ w64 word))
-answerText (question.Encode layout seconds nanos) = encodedText (encodeFor (narrowed layout 0) (instantOf seconds nanos))
+answerText (question.Encode layout seconds nanos) = encodedText (encodeFor (narrowed layout 0) (instantAsked seconds nanos))
 answerText question.Bad = badLine
 
 -- one line of input to one line of output, which ends in LF

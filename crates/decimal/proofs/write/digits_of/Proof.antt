@@ -5,7 +5,7 @@ use mathlib.Core.Path.{_≡_, refl, sym, _∙_}
 use mathlib.Core.List.{_++_, append-nil}
 use native.Mathlib.Omega.{arith}
 use lib.ListN.{length, drop, replicate, length-set}
-use Rattle.decimal.specs.Write.{digits, showNat}
+use Rattle.decimal.specs.Write.{decimalDigits, showNat}
 use Rattle.decimal.proofs.Writing.{down-more, down-last, down-tenth, two-left}
 use Rattle.decimal.proofs.AtEnd.{still-zeros, drop-set, set-zero, stands}
 use Rattle.decimal.proofs.write.digits_of.Statement.{statement}
@@ -14,14 +14,14 @@ use Rattle.decimal.proofs.write.digits_of.Tie as tie
 abbrev Inv-loop : tie.InvT-loop
 Inv-loop n bytes₀ left₀ from₀ bytes left from =
     (0 < from) × (from ≤ 19) × (left < 10 ^ from) × (length bytes ≡ 20)
-    × (bytes ≡ replicate (from + 1) 0 ++ drop (from + 1) bytes) × (showNat n ≡ digits from left ++ drop (from + 1) bytes)
+    × (bytes ≡ replicate (from + 1) 0 ++ drop (from + 1) bytes) × (showNat n ≡ decimalDigits from left ++ drop (from + 1) bytes)
 
 abbrev μ-loop : tie.MeasureT-loop
 μ-loop n bytes₀ left₀ from₀ bytes left from = left
 
 loop-holds : tie.Need-loop-holds Inv-loop μ-loop
 unfolding showNat
-loop-holds c = (omega arith, omega arith, omega arith, refl, refl, sym (append-nil (digits 19 (c .args .n))))
+loop-holds c = (omega arith, omega arith, omega arith, refl, refl, sym (append-nil (decimalDigits 19 (c .args .n))))
 
 cast-digit : tie.Need-cast-digit Inv-loop μ-loop
 cast-digit c = omega arith

@@ -4,7 +4,7 @@ use mathlib.Core.Path.{_≡_, _∙_}
 use mir.Facts.{toZ-ofZ}
 use mir.Syntax.{w64}
 use mir.Val.{SFits}
-use Rattle.lines.specs.Answers.{instantOf, answerText}
+use Rattle.lines.specs.Answers.{instantAsked, answerText}
 use Rattle.lines.proofs.answers.put_answer.Statement.{statement}
 use Rattle.lines.proofs.answers.put_answer.Tie as tie
 
@@ -76,7 +76,7 @@ returns-2 c =
     let nanos = toZ-ofZ {w = w64} {z = q .0 .1 .1 .0} (nanos-fit (n .before)) in
     let s = rw seconds at (t .new .ensures .0) in
     let k = t .new .ensures .1 ∙ (rw nanos at (n .narrow2 .ensures)) in
-    let instant : t .new .result ≡ instantOf (q .0 .1 .0) (q .0 .1 .1 .0) =
+    let instant : t .new .result ≡ instantAsked (q .0 .1 .0) (q .0 .1 .1 .0) =
     λ i. record { seconds = s i; nanos = k i } in
     let word = rw (rw layout at (l .narrow3 .ensures), instant) at (e .encode .ensures) in
     rw (q .1) (rw word at (c .before .before .put-encoded .ensures))
