@@ -1,6 +1,1 @@
-pub mod Window
-pub mod Days
-pub mod Raised
-pub mod Promises
-pub mod Order
-pub mod Answers
+pub mod FromBelow

@@ -1,5 +1,4 @@
-pub mod Bytes
 pub mod Turns
-pub mod Shapes
-pub mod Numbers
+pub mod Calls
+pub mod Refusals
 pub mod Promises

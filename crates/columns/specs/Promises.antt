@@ -1,11 +1,11 @@
 -- What holds of the definitions. Each is proved in proofs/Promises.antt.
-use Prim.Native.Nat.{ℕ, _*_, _/_, _%_, _<_}
+use Prim.Native.Nat.{ℕ, _*_, _/_, _%_, _≤_, _<_}
 use mathlib.Core.Path.{_≡_}
 use mathlib.Core.List.{List}
 use mathlib.Core.Logic.{_⊎_}
 use lib.ListN.{length, take, drop}
 use Rattle.refusal.specs.Answers.{Answer, gives, refused}
-use Rattle.columns.specs.Columns.{rowsOf, decodeColumn, encodeColumn, answer}
+use Rattle.columns.specs.Columns.{Column, rowsOf, decodeColumn, encodeColumn, answer}
 
 -- row k of a column with rows of w bytes
 abbrev pub rowAt : ℕ → ℕ → List ℕ → List ℕ
@@ -25,14 +25,19 @@ Ended =
     ((rowsOf row a b rows input old .done ≡ rows) × (rowsOf row a b rows input old .refusal ≡ 0))
     ⊎ ((rowsOf row a b rows input old .done < rows) × (row (rowAt a (rowsOf row a b rows input old .done) input) ≡ refused (rowsOf row a b rows input old .refusal)))
 
--- the answer reads back: its quotient by 16 is the count, and what that leaves is the refusal
-abbrev pub ReadsBack : Type 0
-ReadsBack =
-    (layout : ℕ) (input old : List ℕ) →
-    ((answer (decodeColumn layout input old) / 16 ≡ decodeColumn layout input old .done) × (answer (decodeColumn layout input old) % 16 ≡ decodeColumn layout input old .refusal))
-    × ((answer (encodeColumn layout input old) / 16 ≡ encodeColumn layout input old .done) × (answer (encodeColumn layout input old) % 16 ≡ encodeColumn layout input old .refusal))
+-- a call refuses under 1 to 13, or tells 0
+abbrev pub ColumnRefusals : Type 0
+ColumnRefusals =
+    (layout : ℕ) (input old : List ℕ) → (decodeColumn layout input old .refusal ≤ 13) × (encodeColumn layout input old .refusal ≤ 13)
 
--- every refusal is a number from 1 to 15, so that 0 is told where every row is done, and there alone
+-- so the answer reads back: its quotient by 16 is the count, and what that leaves is the refusal
+abbrev pub Reads : Column → Type 0
+Reads c = (answer c / 16 ≡ c .done) × (answer c % 16 ≡ c .refusal)
+
+abbrev pub ReadsBack : Type 0
+ReadsBack = (layout : ℕ) (input old : List ℕ) → Reads (decodeColumn layout input old) × Reads (encodeColumn layout input old)
+
+-- and 0 is told only where every row is done
 abbrev pub AllDone : Type 0
 AllDone =
     (layout : ℕ) (input old : List ℕ) →

@@ -2,23 +2,12 @@
 ghost use mathlib.Core.Path.{_≡_};
 ghost use Prim.Native.Nat.{_*_, _≤_};
 ghost use lib.ListN.{length};
-ghost use Rattle.columns.specs.Columns.{instantBytes, rowsOf, decodeRow, answer};
-use instant::Instant;
+ghost use Rattle.columns.specs.Columns.{rowsOf, decodeRow, answer};
 use octets::get64;
-use octets::put;
 use registry::Decoded;
 use registry::Rule;
 use registry::decode_bits;
-use signed::to_bits;
-
-// An instant over a row.
-fn put_instant(row: &mut [u8], t: Instant)
-    requires { ⌜ length (now row) ≡ 12 ⌝ }
-    ensures { λ _. ⌜ now (row .exit) ≡ instantBytes t ⌝ }
-{
-    put(&mut row[..8], to_bits(t.seconds));
-    put(&mut row[8..], t.nanos as u64);
-}
+use rows::put_instant;
 
 // The rows from the first until one is refused.
 pub fn decode_rows(rule: Rule, words: &[u8], instants: &mut [u8], rows: usize) -> u64
@@ -33,7 +22,7 @@ pub fn decode_rows(rule: Rule, words: &[u8], instants: &mut [u8], rows: usize) -
         let from = 8 * i;
         let to = from + 8;
         match decode_bits(rule, get64(&words[from..to])) {
-            Decoded::At(t) => {
+            Decoded::Gives(t) => {
                 let start = 12 * i;
                 let end = start + 12;
                 put_instant(&mut instants[start..end], t);

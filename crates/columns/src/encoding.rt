@@ -2,24 +2,12 @@
 ghost use mathlib.Core.Path.{_≡_};
 ghost use Prim.Native.Nat.{_*_, _≤_};
 ghost use lib.ListN.{length};
-ghost use Rattle.columns.specs.Columns.{instantOf, rowsOf, encodeRow, answer};
-use instant::Instant;
-use octets::get32;
-use octets::get64;
-use octets::put;
+ghost use Rattle.columns.specs.Columns.{rowsOf, encodeRow, answer};
 use registry::Encoded;
 use registry::Rule;
 use registry::encode_by;
-use signed::from_bits;
-use signed::to_bits;
-
-// The instant in a row.
-fn instant_in(row: &[u8]) -> Instant
-    requires { ⌜ length (now row) ≡ 12 ⌝ }
-    ensures { λ r. ⌜ r ≡ instantOf (now (row .entry)) ⌝ }
-{
-    Instant::new(from_bits(get64(row)), get32(&row[8..]))
-}
+use rows::instant_in;
+use rows::put_word;
 
 // The rows from the first until one is refused.
 pub fn encode_rows(rule: Rule, instants: &[u8], words: &mut [u8], rows: usize) -> u64
@@ -34,10 +22,10 @@ pub fn encode_rows(rule: Rule, instants: &[u8], words: &mut [u8], rows: usize) -
         let from = 12 * i;
         let to = from + 12;
         match encode_by(rule, instant_in(&instants[from..to])) {
-            Encoded::Word(word) => {
+            Encoded::Gives(word) => {
                 let start = 8 * i;
                 let end = start + 8;
-                put(&mut words[start..end], to_bits(word));
+                put_word(&mut words[start..end], word);
             }
             Encoded::Refused(why) => return i as u64 * 16 + why.number as u64,
         }

@@ -1,2 +1,4 @@
 pub mod NokiaSeconds
 pub mod SqlDays
+pub mod SqlParts
+pub mod Promises

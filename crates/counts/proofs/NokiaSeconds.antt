@@ -14,8 +14,9 @@ use Rattle.signed.proofs.Differences.{sub-lt, raised, raise, raised-high}
 use Rattle.signed.proofs.Tests.{test-ge}
 use Rattle.signed.proofs.Sizes.{sum-fits, less-fits, less}
 use Rattle.instant.specs.declared.instants.Instant.{Instant}
-use Rattle.places.specs.Orders.{reversed}
+use Rattle.byte_orders.specs.Orders.{reversed}
 use Rattle.counts.specs.Nokia.{nokiaDecode, nokiaWord, nokiaEncode}
+use Rattle.instant.specs.Instants.{at}
 
 pub reversed-small : (p : ℕ) → p < 2 ^ 32 → reversed p < 2 ^ 32
 unfolding reversed
@@ -27,7 +28,7 @@ pub no-count : (w : ℕ) → 4294967295 < w → nokiaDecode w ≡ refused 2
 unfolding nokiaDecode
 no-count w h = rw (le-ltb w 4294967296 h)
 
-pub counted : (w : ℕ) → w ≤ 4294967295 → nokiaDecode w ≡ gives (record { seconds = pos (reversed w) -ℤ pos 4294967295 +ℤ pos 2524608000; nanos = 0 })
+pub counted : (w : ℕ) → w ≤ 4294967295 → nokiaDecode w ≡ gives (at (pos (reversed w) -ℤ pos 4294967295 +ℤ pos 2524608000) 0)
 unfolding nokiaDecode
 counted w h = rw (lt-ltb w 4294967296 (omega arith))
 

@@ -20,6 +20,7 @@ use Rattle.signed.proofs.Extend.{lower-half, upper-half}
 use Rattle.signed.proofs.Sizes.{sum-fits, times, times-plus, floored, within}
 use Rattle.instant.specs.declared.instants.Instant.{Instant}
 use Rattle.counts.specs.Sql.{sqlDay, sqlTicks, tickNanos, sqlDecode, nearestTick, dayWord, rolled, sqlWord, sqlEncode}
+use Rattle.instant.specs.Instants.{at}
 
 -- ---- as a word has them
 
@@ -58,7 +59,7 @@ unfolding sqlDecode
 no-ticks w h = rw (le-ltb (sqlTicks w) 25920000 h)
 
 pub ticks : (w : ℕ) → let k = sqlTicks w in k < 25920000 → sqlDecode w ≡
-    gives (record { seconds = sqlDay w *ℤ pos 86400 +ℤ pos (k / 300) +ℤ negsuc 2208988799; nanos = k % 300 * 10000000 / 3 })
+    gives (at (sqlDay w *ℤ pos 86400 +ℤ pos (k / 300) +ℤ negsuc 2208988799) (k % 300 * 10000000 / 3))
 unfolding sqlDecode
 ticks w h = rw (lt-ltb (sqlTicks w) 25920000 h, tick-seconds (sqlTicks w), tick-nanos (sqlTicks w))
 

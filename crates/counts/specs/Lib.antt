@@ -1,2 +1,3 @@
 pub mod Nokia
 pub mod Sql
+pub mod Promises

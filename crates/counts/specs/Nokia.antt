@@ -6,12 +6,13 @@ use lib.IntN.{ℤ, pos, negsuc, _+ℤ_, _-ℤ_}
 use Rattle.refusal.specs.Answers.{Answer, gives, refused}
 use Rattle.instant.specs.Answers.{withNanos}
 use Rattle.instant.specs.declared.instants.Instant.{Instant}
-use Rattle.places.specs.Orders.{reversed}
+use Rattle.byte_orders.specs.Orders.{reversed}
+use Rattle.instant.specs.Instants.{at}
 
 -- bytes reversed to p; p - 4,294,967,295 + 2,524,608,000 seconds
 unfoldable pub nokiaDecode : ℕ → Answer Instant
 nokiaDecode w =
-    cond (ltb w (2 ^ 32)) (gives (record { seconds = pos (reversed w) -ℤ pos 4294967295 +ℤ pos 2524608000; nanos = 0 })) (refused 2)
+    cond (ltb w (2 ^ 32)) (gives (at (pos (reversed w) -ℤ pos 4294967295 +ℤ pos 2524608000) 0)) (refused 2)
 
 -- p is seconds + 4,294,967,295 - 2,524,608,000; 8 where 32 bits do not hold it
 abbrev pub nokiaWord : ℤ → Answer ℤ

@@ -2,13 +2,16 @@
 use mathlib.Core.Bool.{cond, _&&_}
 use Prim.Native.Nat.{ℕ, _+_, _*_, _/_, _%_, _^_}
 use lib.Dec.{eqb, ltb}
-use lib.IntN.{ℤ, pos, negℤ, _+ℤ_, _-ℤ_, _*ℤ_}
+use lib.IntN.{ℤ, pos, negℤ, natAbs, _+ℤ_, _-ℤ_, _*ℤ_}
 use lib.Signed.{leZ, ltZ}
+use mir.Syntax.{w64}
+use mir.Val.{ofZ}
 use Rattle.refusal.specs.Answers.{Answer, gives, refused}
 use Rattle.signed.specs.Floor.{floorDiv, floorRem}
 use Rattle.signed.specs.Extend.{twos}
 use Rattle.instant.specs.Answers.{withNanos}
 use Rattle.instant.specs.declared.instants.Instant.{Instant}
+use Rattle.instant.specs.Instants.{at}
 
 -- bits 32..63 are signed days from 1900-01-01, which is second -2,208,988,800, and bits 0..31 ticks of 1/300 s, cut
 -- down to a whole nanosecond; 5 for ticks of a day or more
@@ -24,7 +27,7 @@ tickNanos k = k * 1000000000 / 300
 unfoldable pub sqlDecode : ℕ → Answer Instant
 sqlDecode w =
     cond (ltb (sqlTicks w) 25920000)
-    (gives (record { seconds = sqlDay w *ℤ pos 86400 +ℤ pos (tickNanos (sqlTicks w) / 1000000000) -ℤ pos 2208988800; nanos = tickNanos (sqlTicks w) % 1000000000 }))
+    (gives (at (sqlDay w *ℤ pos 86400 +ℤ pos (tickNanos (sqlTicks w) / 1000000000) -ℤ pos 2208988800) (tickNanos (sqlTicks w) % 1000000000)))
     (refused 5)
 
 -- the nearest tick of r nanoseconds of a day, a half going up
@@ -45,3 +48,17 @@ sqlWord z n = rolled (floorDiv z 86400) (nearestTick (floorRem z 86400 * 1000000
 
 unfoldable pub sqlEncode : Instant → Answer ℤ
 sqlEncode t = withNanos t (sqlWord (t .seconds +ℤ pos 2208988800) (t .nanos))
+
+-- ---- exact time
+
+-- the exact time of a word: ticks of 1/300 s from 1900-01-01 on
+abbrev pub exactTicks : ℤ → ℤ
+exactTicks w = sqlDay (ofZ w64 w) *ℤ pos 25920000 +ℤ pos (sqlTicks (ofZ w64 w))
+
+-- three times the nanoseconds of an instant from 1900-01-01 on; a tick is 10,000,000 of these thirds
+abbrev pub thirds : Instant → ℤ
+thirds t = ((t .seconds +ℤ pos 2208988800) *ℤ pos 1000000000 +ℤ pos (t .nanos)) *ℤ pos 3
+
+-- how far a word is from an instant, in thirds of a nanosecond: 1/600 s are 5,000,000
+abbrev pub distance : Instant → ℤ → ℕ
+distance t w = natAbs (thirds t -ℤ exactTicks w *ℤ pos 10000000)

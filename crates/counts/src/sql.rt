@@ -17,14 +17,12 @@ pub fn decode_sql(bits: u64) -> Decoded
 {
     let ticks = bits % 4294967296;
     if 25920000 <= ticks {
-        return Decoded::Refused(Refusal {
-            number: Refusal::TICKS,
-        });
+        return Decoded::Refused(Refusal::TICKS);
     }
     let day = sign_extended(bits / 4294967296, 32);
     let seconds = day * 86400 + (ticks / 300) as i64 + Instant::EPOCH_1900;
     let nanos = (ticks % 300 * 10000000 / 3) as u32;
-    Decoded::At(Instant::new(seconds, nanos))
+    Decoded::Gives(Instant::new(seconds, nanos))
 }
 
 // A day above its ticks.
@@ -33,16 +31,12 @@ fn day_word(day: i64, ticks: u64) -> Encoded
     ensures { λ r. ⌜ readEncoded r ≡ dayWord day ticks ⌝ }
 {
     if day < -2147483648 {
-        return Encoded::Refused(Refusal {
-            number: Refusal::COUNT,
-        });
+        return Encoded::Refused(Refusal::COUNT);
     }
     if 2147483647 < day {
-        return Encoded::Refused(Refusal {
-            number: Refusal::COUNT,
-        });
+        return Encoded::Refused(Refusal::COUNT);
     }
-    Encoded::Word(day * 4294967296 + ticks as i64)
+    Encoded::Gives(day * 4294967296 + ticks as i64)
 }
 
 // A full day's ticks are tick 0 of the next day.
@@ -62,9 +56,7 @@ pub fn encode_sql(t: Instant) -> Encoded
 {
     let nanos = t.nanos;
     if Instant::NANOS < nanos {
-        return Encoded::Refused(Refusal {
-            number: Refusal::NANOS,
-        });
+        return Encoded::Refused(Refusal::NANOS);
     }
     let seconds = t.seconds;
     let day = div_floor(seconds, 86400) + 25567;

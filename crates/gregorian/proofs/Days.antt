@@ -11,8 +11,8 @@ use mir.Val.{SFits}
 use Rattle.signed.proofs.Differences.{minus, lower, raised, raised-high, raised-back}
 use Rattle.signed.proofs.Machine.{Raises, raises}
 use Rattle.signed.proofs.Tests.{leZ-le, and-left, and-right}
-use Rattle.lengths.specs.Lengths.{leap, months, daysOfMonths, yearDays, yearAt}
-use Rattle.gregorian.specs.Gregorian.{yearsTo, daysOfYears, daysTo, dayNumber}
+use Rattle.month_lengths.specs.Lengths.{leap, months, daysOfMonths, yearDays, yearAt}
+use Rattle.gregorian.specs.Gregorian.{yearsTo, daysOfYears, daysTo, dayNumber, epochDay}
 use Rattle.gregorian.specs.Dates.{goodYear, goodDayNumber, yearsIn, monthsIn, dateInYear, dateIn, dateAt}
 use Rattle.gregorian.specs.Answers.{dayFor}
 use Rattle.gregorian.specs.Parts.{InMonth, InYear, dayInYear}
@@ -47,11 +47,11 @@ raises-year {y} f g = raises 10000 f (year-low y g) (omega arith) (omega (arith,
 
 -- ---- day numbers
 
-pub epoch : daysTo (pos 1970) 1 1 ≡ 4371953
+pub epoch : daysTo (pos 1970) 1 1 ≡ epochDay
 unfolding daysTo
-epoch = ap (λ n. n + daysOfMonths (leap (pos 1970)) 0 + 0) (closed-is 11970) ∙ ap (λ n. 4371953 + n + 0) (no-months (leap (pos 1970)))
+epoch = ap (λ n. n + daysOfMonths (leap (pos 1970)) 0 + 0) (closed-is 11970) ∙ ap (λ n. epochDay + n + 0) (no-months (leap (pos 1970)))
 
-pub number : (y : ℤ) (m d : ℕ) → dayNumber y m d ≡ subℕ (daysTo y m d) 4371953
+pub number : (y : ℤ) (m d : ℕ) → dayNumber y m d ≡ subℕ (daysTo y m d) epochDay
 unfolding dayNumber
 number y m d = minus (daysTo y m d) (daysTo (pos 1970) 1 1) ∙ ap (subℕ (daysTo y m d)) epoch
 
@@ -61,11 +61,11 @@ days-in-year n m d = ap (λ k. daysOfYears k + daysOfMonths (leap (yearAt n)) (m
 
 pub first-day : dayNumber (negℤ (pos 9999)) 1 1 ≡ negsuc 4371586
 unfolding leap daysOfMonths
-first-day = number (negℤ (pos 9999)) 1 1 ∙ ap (λ n. subℕ n 4371953) (days-in-year 1 1 1 ∙ ap (λ n. n + 0 + 0) (closed-is 1))
+first-day = number (negℤ (pos 9999)) 1 1 ∙ ap (λ n. subℕ n epochDay) (days-in-year 1 1 1 ∙ ap (λ n. n + 0 + 0) (closed-is 1))
 
 pub last-day : dayNumber (pos 9999) 12 31 ≡ pos 2932896
 unfolding leap daysOfMonths
-last-day = number (pos 9999) 12 31 ∙ ap (λ n. subℕ n 4371953) (days-in-year 19999 12 31 ∙ ap (λ n. n + 334 + 30) (closed-is 19999))
+last-day = number (pos 9999) 12 31 ∙ ap (λ n. subℕ n epochDay) (days-in-year 19999 12 31 ∙ ap (λ n. n + 334 + 30) (closed-is 19999))
 
 pub day-low : (z : ℤ) → goodDayNumber z ≡ true → negsuc 4371586 ≤ℤ z
 day-low z g = leZ-le (negsuc 4371586) z (rw first-day at (and-left (leZ (dayNumber (negℤ (pos 9999)) 1 1) z) (leZ z (dayNumber (pos 9999) 12 31)) g))
@@ -73,12 +73,12 @@ day-low z g = leZ-le (negsuc 4371586) z (rw first-day at (and-left (leZ (dayNumb
 pub day-high : (z : ℤ) → goodDayNumber z ≡ true → z ≤ℤ pos 2932896
 day-high z g = leZ-le z (pos 2932896) (rw last-day at (and-right (leZ (dayNumber (negℤ (pos 9999)) 1 1) z) (leZ z (dayNumber (pos 9999) 12 31)) g))
 
-pub days-most : (z : ℤ) → goodDayNumber z ≡ true → raised 4371953 z < daysOfYears 20000
-days-most z g = omega (arith, all-years, raised-high 4371953 z (day-low z g) (omega arith) (day-high z g))
+pub days-most : (z : ℤ) → goodDayNumber z ≡ true → raised epochDay z < daysOfYears 20000
+days-most z g = omega (arith, all-years, raised-high epochDay z (day-low z g) (omega arith) (day-high z g))
 
 -- the same of days
-pub raises-day : {z : ℤ} → SFits w64 z → goodDayNumber z ≡ true → Raises 4371953 z
-raises-day {z} f g = raises 4371953 f (day-low z g) (omega arith) (omega (arith, all-years, days-most z g))
+pub raises-day : {z : ℤ} → SFits w64 z → goodDayNumber z ≡ true → Raises epochDay z
+raises-day {z} f g = raises epochDay f (day-low z g) (omega arith) (omega (arith, all-years, days-most z g))
 
 pub day-for : (y : ℤ) (n m d : ℕ) → goodYear y ≡ true → n ≡ yearsTo y → dayInYear (yearAt n) m d ≡ dayFor y m d
 day-for y n m d g e = rw g (ap (λ z. dayInYear z m d) (ap yearAt e ∙ year-back y g))
@@ -111,6 +111,6 @@ date-in {t} {n} {left} h =
     let d : t - daysOfYears (yearsIn t) ≡ left = omega (arith, ap daysOfYears e, h .is) in
     λ i. dateInYear (e i) (d i)
 
-pub date-at : (z : ℤ) {n left : ℕ} → InYear (natAbs (z +ℤ pos 4371953)) n left → dateAt z ≡ dateInYear n left
+pub date-at : (z : ℤ) {n left : ℕ} → InYear (natAbs (z +ℤ pos epochDay)) n left → dateAt z ≡ dateInYear n left
 unfolding dateAt
 date-at z h = rw epoch (date-in h)

@@ -9,8 +9,8 @@ use native.Mathlib.Decide.{decLt}
 use lib.Dec.{T, leb, eqb, leb→le, eqb→eq}
 use lib.ListN.{getD}
 use borrow.Author.Tests.{lt-ltb, le-ltb}
-use Rattle.lengths.specs.Lengths.{months, daysOfMonths}
-use Rattle.lengths.proofs.Months.{each, first, other, at}
+use Rattle.month_lengths.specs.Lengths.{months, daysOfMonths}
+use Rattle.month_lengths.proofs.Months.{each, first, other, at}
 use Rattle.gregorian.specs.Parts.{lackingOf, InMonth}
 use Rattle.gregorian.proofs.Wholes.{fewer}
 

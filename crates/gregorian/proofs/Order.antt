@@ -5,7 +5,7 @@ use Prim.Native.Nat.{ℕ, _+_, _-_, _<_}
 use native.Mathlib.Omega.{arith}
 use lib.ListN.{getD}
 use lib.IntN.{ℤ}
-use Rattle.lengths.specs.Lengths.{leap, months, daysOfMonths, yearDays, yearAt}
+use Rattle.month_lengths.specs.Lengths.{leap, months, daysOfMonths, yearDays, yearAt}
 use Rattle.gregorian.specs.Gregorian.{yearsTo, daysOfYears, daysTo}
 use Rattle.gregorian.specs.Dates.{goodDate}
 use Rattle.gregorian.proofs.Wholes.{rises}

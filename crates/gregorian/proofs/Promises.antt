@@ -8,10 +8,10 @@ use Rattle.refusal.specs.Answers.{refused}
 use Rattle.refusal.proofs.Answers.{only, same-refusal}
 use Rattle.signed.proofs.Differences.{minus, plus, lower, raised, raised-low, raised-back, low, high}
 use Rattle.signed.proofs.Tests.{le-leZ}
-use Rattle.lengths.specs.Lengths.{leap, monthLength, daysOfMonths, yearDays, yearAt}
-use Rattle.gregorian.specs.Gregorian.{yearsTo, daysTo, dayNumber}
+use Rattle.month_lengths.specs.Lengths.{leap, monthLength, daysOfMonths, yearDays, yearAt}
+use Rattle.gregorian.specs.Gregorian.{yearsTo, daysTo, dayNumber, epochDay}
 use Rattle.gregorian.specs.Dates.{dateIn, dateAt}
-use Rattle.gregorian.specs.Promises.{DayZero, NextDay, NextMonth, NextYear, YearLengths, DayOfItsDate, DateOfItsDay, OneAnswer}
+use Rattle.gregorian.specs.Promises.{EpochDay, DayZero, NextDay, NextMonth, NextYear, YearLengths, DayOfItsDate, DateOfItsDay, OneAnswer}
 use Rattle.gregorian.specs.Answers.{readDay, readDated}
 use Rattle.gregorian.specs.declared.dates.Day.{Day}
 use Rattle.gregorian.specs.declared.dates.Day.the-variants as day
@@ -22,13 +22,16 @@ use Rattle.gregorian.proofs.MonthSums.{no-months, months-step}
 use Rattle.gregorian.proofs.Days.{year-back, epoch, number, days-in-year, first-day, last-day, day-low, days-most}
 use Rattle.gregorian.proofs.Trip.{day-trip, date-trip, its-days-low, its-days-high}
 
+pub epoch-day : EpochDay
+epoch-day = epoch
+
 pub day-zero : DayZero
-day-zero = number (pos 1970) 1 1 ∙ ap (λ n. subℕ n 4371953) epoch
+day-zero = number (pos 1970) 1 1 ∙ ap (λ n. subℕ n epochDay) epoch
 
 -- so many days more to a date are so many more in its number
 later : (y y′ : ℤ) (m m′ d d′ k : ℕ) → daysTo y′ m′ d′ ≡ daysTo y m d + k → dayNumber y′ m′ d′ ≡ dayNumber y m d +ℤ pos k
 later y y′ m m′ d d′ k e =
-    number y′ m′ d′ ∙ ap (λ n. subℕ n 4371953) e ∙ sym (plus (daysTo y m d) 4371953 k) ∙ ap (λ z. z +ℤ pos k) (sym (number y m d))
+    number y′ m′ d′ ∙ ap (λ n. subℕ n epochDay) e ∙ sym (plus (daysTo y m d) epochDay k) ∙ ap (λ z. z +ℤ pos k) (sym (number y m d))
 
 pub next-day : NextDay
 unfolding daysTo
@@ -70,33 +73,33 @@ pub day-of-its-date : DayOfItsDate
 unfolding dateAt
 day-of-its-date z g =
     let l = day-low z g in
-    let t = raised 4371953 z in
-    let trip = day-trip t (omega (arith, closed-is 1, raised-low 4371953 z l (omega arith))) (days-most z g) in
+    let t = raised epochDay z in
+    let trip = day-trip t (omega (arith, closed-is 1, raised-low epochDay z l (omega arith))) (days-most z g) in
     let d = dateIn t in
     rw epoch
-    (trip .good, number (d .year) (d .month) (d .day) ∙ ap (λ n. subℕ n 4371953) (trip .back) ∙ lower 4371953 z l (omega arith))
+    (trip .good, number (d .year) (d .month) (d .day) ∙ ap (λ n. subℕ n epochDay) (trip .back) ∙ lower epochDay z l (omega arith))
 
 pub date-of-its-day : DateOfItsDay
 unfolding dateAt
 date-of-its-day y m d g =
     let t = daysTo y m d in
     let e = number y m d in (
-      rw (first-day, last-day, e, le-leZ (low 4371586 t 4371953 (omega (arith, closed-is 1, its-days-low y m d g)))) (le-leZ (high 2932896 t 4371953 (omega (arith, all-years, its-days-high y m d g)))),
-      rw (epoch, e, raised-back 4371953 t) (date-trip y m d g),
+      rw (first-day, last-day, e, le-leZ (low 4371586 t epochDay (omega (arith, closed-is 1, its-days-low y m d g)))) (le-leZ (high 2932896 t epochDay (omega (arith, all-years, its-days-high y m d g)))),
+      rw (epoch, e, raised-back epochDay t) (date-trip y m d g),
     )
 
 -- ---- one answer
 
 told-day : (a b : Day) → readDay a ≡ readDay b → a ≡ b
-told-day (day.At m) (day.At n) e = ap day.At cc
-told-day (day.At m) (day.Refused w) e = cc
-told-day (day.Refused v) (day.At n) e = cc
+told-day (day.Gives m) (day.Gives n) e = ap day.Gives cc
+told-day (day.Gives m) (day.Refused w) e = cc
+told-day (day.Refused v) (day.Gives n) e = cc
 told-day (day.Refused v) (day.Refused w) e = ap day.Refused (same-refusal v w (refused (v .number)) refl e)
 
 told-dated : (a b : Dated) → readDated a ≡ readDated b → a ≡ b
-told-dated (dated.At c) (dated.At d) e = ap dated.At cc
-told-dated (dated.At c) (dated.Refused w) e = cc
-told-dated (dated.Refused v) (dated.At d) e = cc
+told-dated (dated.Gives c) (dated.Gives d) e = ap dated.Gives cc
+told-dated (dated.Gives c) (dated.Refused w) e = cc
+told-dated (dated.Refused v) (dated.Gives d) e = cc
 told-dated (dated.Refused v) (dated.Refused w) e = ap dated.Refused (same-refusal v w (refused (v .number)) refl e)
 
 pub one-answer : OneAnswer

@@ -7,7 +7,7 @@ use lib.IntN.{ℤ, pos, negsuc, negℤ}
 use lib.Signed.{leZ, ltZ}
 use borrow.Author.Tests.{le-leb, lt-leb}
 use Rattle.signed.proofs.Tests.{ge-leZ, lt-leZ, and-false}
-use Rattle.lengths.specs.Lengths.{monthLength}
+use Rattle.month_lengths.specs.Lengths.{monthLength}
 use Rattle.gregorian.specs.Gregorian.{dayNumber}
 use Rattle.gregorian.specs.Dates.{goodYear, goodMonthDay, goodDayNumber}
 use Rattle.gregorian.proofs.Days.{first-day, last-day}

@@ -10,7 +10,7 @@ use lib.IntN.{ℤ}
 use borrow.Author.Tests.{leb-true}
 use Rattle.signed.proofs.Differences.{minus, raised-low, low, high}
 use Rattle.signed.proofs.Tests.{le-leZ, and-left, and-right}
-use Rattle.lengths.specs.Lengths.{leap, months, monthLength, daysOfMonths, yearDays, yearAt}
+use Rattle.month_lengths.specs.Lengths.{leap, months, monthLength, daysOfMonths, yearDays, yearAt}
 use Rattle.gregorian.specs.Gregorian.{yearsTo, daysOfYears, daysTo}
 use Rattle.gregorian.specs.Dates.{goodYear, goodMonthDay, goodDate, dateIn}
 use Rattle.gregorian.specs.Parts.{InMonth, InYear}

@@ -7,8 +7,8 @@ use native.Mathlib.Numerals.{add-one}
 use native.Mathlib.Decide.{decLt}
 use lib.Dec.{eqb}
 use borrow.Author.Tests.{eqb-true, eqb-false}
-use Rattle.lengths.specs.Lengths.{leap, daysOfMonths, yearDays, yearAt}
-use Rattle.lengths.proofs.Leap.{leapN, leap-at}
+use Rattle.month_lengths.specs.Lengths.{leap, daysOfMonths, yearDays, yearAt}
+use Rattle.month_lengths.proofs.Leap.{leapN, leap-at}
 use Rattle.gregorian.specs.Gregorian.{daysOfYears}
 use Rattle.gregorian.specs.Parts.{InYear}
 use Rattle.gregorian.proofs.Wholes.{fewer}

@@ -2,7 +2,7 @@
 use mathlib.Core.Bool.{cond}
 use Prim.Native.Nat.{ℕ}
 use lib.IntN.{ℤ}
-use Rattle.refusal.specs.Answers.{Answer, gives, refused}
+use Rattle.refusal.specs.Answers.{Answer, gives, refused, refusedBy}
 use Rattle.gregorian.specs.Gregorian.{dayNumber}
 use Rattle.gregorian.specs.Dates.{goodDate, goodDayNumber, dateAt}
 use Rattle.gregorian.specs.declared.dates.Date.{Date}
@@ -13,12 +13,12 @@ use Rattle.gregorian.specs.declared.dates.Dated.the-variants as dated
 
 -- how the answers are read
 abbrev pub readDay : Day → Answer ℤ
-readDay (day.At n) = gives n
-readDay (day.Refused why) = refused (why .number)
+readDay (day.Gives n) = gives n
+readDay (day.Refused why) = refusedBy why
 
 abbrev pub readDated : Dated → Answer Date
-readDated (dated.At d) = gives d
-readDated (dated.Refused why) = refused (why .number)
+readDated (dated.Gives d) = gives d
+readDated (dated.Refused why) = refusedBy why
 
 -- the day number of a good date; 3 for any other
 abbrev pub dayFor : ℤ → ℕ → ℕ → Answer ℤ

@@ -5,7 +5,7 @@ use lib.Dec.{ltb, leb}
 use lib.ListN.{getD}
 use lib.IntN.{ℤ, pos, negℤ, natAbs, _+ℤ_}
 use lib.Signed.{leZ}
-use Rattle.lengths.specs.Lengths.{leap, months, monthLength, daysOfMonths, yearDays, yearAt}
+use Rattle.month_lengths.specs.Lengths.{leap, months, monthLength, daysOfMonths, yearDays, yearAt}
 use Rattle.gregorian.specs.Gregorian.{daysOfYears, daysTo, dayNumber}
 use Rattle.gregorian.specs.declared.dates.Date.{Date}
 
@@ -47,6 +47,6 @@ dateInYear n t = record {
 unfoldable pub dateIn : ℕ → Date
 dateIn t = dateInYear (yearsIn t) (t - daysOfYears (yearsIn t))
 
--- the date of a day number
+-- the date of a day number, for days from 1 January -10000 on
 unfoldable pub dateAt : ℤ → Date
 dateAt z = dateIn (natAbs (z +ℤ pos (daysTo (pos 1970) 1 1)))

@@ -3,9 +3,9 @@
 -- counts from 1 January 1970.
 use Prim.Native.Nat.{ℕ, zero, suc, _+_, _-_}
 use lib.IntN.{ℤ, pos, natAbs, _+ℤ_, _-ℤ_}
-use Rattle.lengths.specs.Lengths.{leap, daysOfMonths, yearDays, yearAt}
+use Rattle.month_lengths.specs.Lengths.{leap, daysOfMonths, yearDays, yearAt}
 
--- how many years the year y is after -10000
+-- how many years the year y is after -10000, for years from then on
 abbrev pub yearsTo : ℤ → ℕ
 yearsTo y = natAbs (y +ℤ pos 10000)
 
@@ -17,6 +17,10 @@ daysOfYears (suc n) = daysOfYears n + yearDays (yearAt n)
 -- the days from 1 January -10000 to a date
 unfoldable pub daysTo : ℤ → ℕ → ℕ → ℕ
 daysTo y m d = daysOfYears (yearsTo y) + daysOfMonths (leap y) (m - 1) + (d - 1)
+
+-- the days from 1 January -10000 to 1 January 1970: that sum, as `EpochDay` of specs/Promises says
+abbrev pub epochDay : ℕ
+epochDay = 4371953
 
 -- the day number of a date: the days from 1 January 1970 to it, negative before
 unfoldable pub dayNumber : ℤ → ℕ → ℕ → ℤ

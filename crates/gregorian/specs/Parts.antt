@@ -6,7 +6,7 @@ use lib.Dec.{ltb}
 use lib.IntN.{ℤ}
 use lib.ListN.{getD}
 use Rattle.refusal.specs.Answers.{Answer, gives, refused}
-use Rattle.lengths.specs.Lengths.{months, daysOfMonths, yearDays, yearAt}
+use Rattle.month_lengths.specs.Lengths.{months, daysOfMonths, yearDays, yearAt}
 use Rattle.gregorian.specs.Gregorian.{daysOfYears, dayNumber}
 use Rattle.gregorian.specs.Dates.{goodMonthDay}
 

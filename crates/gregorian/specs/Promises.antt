@@ -4,8 +4,8 @@ use mathlib.Core.Bool.{true}
 use Prim.Native.Nat.{ℕ, _+_, _≤_}
 use lib.IntN.{ℤ, pos, _+ℤ_}
 use Rattle.refusal.specs.Answers.{Answer}
-use Rattle.lengths.specs.Lengths.{leap, monthLength, yearDays}
-use Rattle.gregorian.specs.Gregorian.{dayNumber}
+use Rattle.month_lengths.specs.Lengths.{leap, monthLength, yearDays}
+use Rattle.gregorian.specs.Gregorian.{daysTo, epochDay, dayNumber}
 use Rattle.gregorian.specs.Dates.{goodYear, goodDate, goodDayNumber, dateAt}
 use Rattle.gregorian.specs.Answers.{readDay, readDated}
 use Rattle.gregorian.specs.declared.dates.Date.{Date}
@@ -13,6 +13,10 @@ use Rattle.gregorian.specs.declared.dates.Day.{Day}
 use Rattle.gregorian.specs.declared.dates.Dated.{Dated}
 
 -- ---- the definition of the day number, at sight
+
+-- the days from 1 January -10000 to 1 January 1970
+abbrev pub EpochDay : Type 0
+EpochDay = daysTo (pos 1970) 1 1 ≡ epochDay
 
 -- 1 January 1970 is day 0
 abbrev pub DayZero : Type 0

@@ -10,5 +10,6 @@ mod years;
 pub use dates::Date;
 pub use dates::Dated;
 pub use dates::Day;
+pub use dates::EPOCH_DAY;
 pub use dates::date_of;
 pub use dates::day_of;

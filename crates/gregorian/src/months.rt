@@ -1,9 +1,9 @@
 // The days before a month, and the month of a day of a year. A month is counted from 0 here.
 ghost use mathlib.Core.Path.{_≡_};
 ghost use Prim.Native.Nat.{_≤_, _<_};
-ghost use Rattle.lengths.specs.Lengths.{daysOfMonths};
+ghost use Rattle.month_lengths.specs.Lengths.{daysOfMonths};
 ghost use Rattle.gregorian.specs.Parts.{lackingOf, InMonth};
-use lengths::length_of_month;
+use month_lengths::length_of_month;
 
 // What February lacks of 30 days, of a month after it.
 fn lacking(leap: bool, month: u64) -> u64

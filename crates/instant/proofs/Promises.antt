@@ -10,15 +10,15 @@ use Rattle.instant.specs.declared.answers.Encoded.{Encoded}
 use Rattle.instant.specs.declared.answers.Encoded.the-variants as encoded
 
 told-decoded : (a b : Decoded) → readDecoded a ≡ readDecoded b → a ≡ b
-told-decoded (decoded.At s) (decoded.At t) e = ap decoded.At cc
-told-decoded (decoded.At s) (decoded.Refused n) e = cc
-told-decoded (decoded.Refused m) (decoded.At t) e = cc
+told-decoded (decoded.Gives s) (decoded.Gives t) e = ap decoded.Gives cc
+told-decoded (decoded.Gives s) (decoded.Refused n) e = cc
+told-decoded (decoded.Refused m) (decoded.Gives t) e = cc
 told-decoded (decoded.Refused m) (decoded.Refused n) e = ap decoded.Refused (same-refusal m n (refused (m .number)) refl e)
 
 told-encoded : (a b : Encoded) → readEncoded a ≡ readEncoded b → a ≡ b
-told-encoded (encoded.Word s) (encoded.Word t) e = ap encoded.Word cc
-told-encoded (encoded.Word s) (encoded.Refused n) e = cc
-told-encoded (encoded.Refused m) (encoded.Word t) e = cc
+told-encoded (encoded.Gives s) (encoded.Gives t) e = ap encoded.Gives cc
+told-encoded (encoded.Gives s) (encoded.Refused n) e = cc
+told-encoded (encoded.Refused m) (encoded.Gives t) e = cc
 told-encoded (encoded.Refused m) (encoded.Refused n) e = ap encoded.Refused (same-refusal m n (refused (m .number)) refl e)
 
 pub one-answer : OneAnswer

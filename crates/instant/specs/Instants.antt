@@ -1,12 +1,18 @@
 -- Instants: seconds since 1970-01-01 UTC and nanoseconds, both counted forwards.
 use mathlib.Core.Bool.{Bool, true, false, cond}
+use Prim.Native.Nat.{ℕ}
 use lib.Dec.{ltb}
+use lib.IntN.{ℤ}
 use lib.Signed.{ltZ}
 use Rattle.instant.specs.declared.instants.Instant.{Instant}
 
+-- the instant of seconds and nanoseconds
+abbrev pub at : ℤ → ℕ → Instant
+at s n = record { seconds = s; nanos = n }
+
 -- the first part that differs decides; equal parts leave it to the rest
 abbrev pub decides : Bool → Bool → Bool → Bool
-decides less more rest = cond less true (cond more false rest)
+decides less more later = cond less true (cond more false later)
 
 -- a is earlier than b: by the seconds, then by the nanoseconds
 abbrev pub isBefore : Instant → Instant → Bool

@@ -1,6 +1,6 @@
 // The instant, its limits and the epochs that clocks count from.
 ghost use mathlib.Core.Path.{_≡_};
-ghost use Rattle.instant.specs.Instants.{isBefore};
+ghost use Rattle.instant.specs.Instants.{at, isBefore};
 
 // Seconds since 1970-01-01 UTC, and nanoseconds counted forwards: half a second before 1970 is -1 and 500,000,000.
 pub struct Instant {
@@ -17,24 +17,22 @@ impl Instant {
     // The most nanoseconds that an instant has.
     pub const NANOS: u32 = 999999999;
 
-    // 1 January of 1601 (FILETIME), 1900 (SQL Server), 1970 and 2050 (Nokia), in seconds.
+    // 1 January of 1601 (FILETIME), 1900 (SQL Server) and 2050 (Nokia), in seconds.
     pub const EPOCH_1601: i64 = -11644473600;
 
     pub const EPOCH_1900: i64 = -2208988800;
 
-    pub const EPOCH_1970: i64 = 0;
-
     pub const EPOCH_2050: i64 = 2524608000;
 
     pub fn new(seconds: i64, nanos: u32) -> Self
-        ensures { λ r. ⌜ (r .seconds ≡ seconds) × (r .nanos ≡ nanos) ⌝ }
+        ensures { λ r. ⌜ r ≡ at seconds nanos ⌝ }
     {
         Instant { seconds, nanos }
     }
 
     // A whole second.
     pub fn at_second(seconds: i64) -> Self
-        ensures { λ r. ⌜ (r .seconds ≡ seconds) × (r .nanos ≡ 0) ⌝ }
+        ensures { λ r. ⌜ r ≡ at seconds 0 ⌝ }
     {
         Instant { seconds, nanos: 0 }
     }

@@ -8,6 +8,7 @@ use lib.ListN.{length}
 use mir.Syntax.{w64}
 use mir.Val.{ofZ}
 use Rattle.refusal.specs.Answers.{Answer, gives, refused}
+use Rattle.instant.specs.Instants as instant
 use Rattle.instant.specs.declared.instants.Instant.{Instant}
 use Rattle.texts.specs.Buffer.{Written, written}
 use Rattle.decimal.specs.Write.{showInt}
@@ -40,7 +41,7 @@ encodedText (refused n) = refusedText n
 
 -- nanoseconds that 32 bits do not hold are 2^32 - 1, which is refused under 9
 abbrev pub instantAsked : ℤ → ℤ → Instant
-instantAsked seconds nanos = record { seconds = seconds; nanos = narrowed nanos 4294967295 }
+instantAsked seconds nanos = instant.at seconds (narrowed nanos 4294967295)
 
 -- what the registry's definitions say; a layout that 32 bits do not hold is 0, which is refused under 1
 unfoldable pub answerText : Question → List ℕ

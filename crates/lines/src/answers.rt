@@ -85,7 +85,7 @@ fn put_decoded(out: &mut [u8], at: usize, answer: Decoded) -> usize
     ensures { λ r. ⌜ now (out .exit) ≡ written (now (out .entry)) at (decodedText (readDecoded answer)) .bytes ⌝ }
 {
     match answer {
-        Decoded::At(instant) => put_instant(out, at, instant),
+        Decoded::Gives(instant) => put_instant(out, at, instant),
         Decoded::Refused(why) => put_refused(out, at, why),
     }
 }
@@ -97,7 +97,7 @@ fn put_encoded(out: &mut [u8], at: usize, answer: Encoded) -> usize
     ensures { λ r. ⌜ now (out .exit) ≡ written (now (out .entry)) at (encodedText (readEncoded answer)) .bytes ⌝ }
 {
     match answer {
-        Encoded::Word(word) => put_number(out, at, word),
+        Encoded::Gives(word) => put_number(out, at, word),
         Encoded::Refused(why) => put_refused(out, at, why),
     }
 }

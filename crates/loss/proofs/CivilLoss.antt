@@ -1,4 +1,4 @@
--- What the layouts of civil fields lose, once over a description, and which words of the thirteen are plain.
+-- What the layouts of civil fields lose, once over a description, and which words are plain where there is no zone.
 use mathlib.Core.Path.{_≡_, refl, subst}
 use mathlib.Core.Bool.{true, false}
 use mathlib.Core.Logic.{inl, inr}
@@ -11,24 +11,27 @@ use borrow.Author.Tests.{le-ltb, eqb-true}
 use Rattle.refusal.specs.Answers.{gives}
 use Rattle.signed.proofs.Differences.{order}
 use Rattle.instant.specs.declared.instants.Instant.{Instant}
-use Rattle.civil.specs.Times.{secondsOf}
-use Rattle.civil.specs.Promises.{withSecond}
-use Rattle.civil.specs.declared.times.Civil.{Civil}
-use Rattle.civil.proofs.Order.{secondsN, seconds-are}
-use Rattle.civil.proofs.Promises.{seconds-of-their-fields}
-use Rattle.places.specs.Orders.{ordered}
-use Rattle.fields.specs.Reading.{base, stored, fieldsIn}
-use Rattle.fields.specs.Layouts.{layoutFor}
-use Rattle.fields.specs.declared.layouts.Layout.{Layout}
-use Rattle.fields.specs.declared.kinds.Kind.{Kind}
-use Rattle.fields.specs.declared.kinds.Kind.the-variants.{FatDos, ExFat, Dttm, BitDate, BitDec, Bcd, Moto, Symantec, Dvr, Ns40, Ns40Le, LogTime, SemiOctet}
-use Rattle.registry.specs.Words.{fieldsDecode, fieldsEncode}
+use Rattle.day_time.specs.Times.{secondsOf}
+use Rattle.day_time.specs.Promises.{withSecond}
+use Rattle.day_time.specs.declared.times.Civil.{Civil}
+use Rattle.day_time.proofs.Order.{secondsN, seconds-are}
+use Rattle.day_time.proofs.Promises.{seconds-of-their-fields}
+use Rattle.byte_orders.specs.Orders.{ordered}
+use Rattle.unpacking.specs.Reading.{stored, fieldsIn}
+use Rattle.layouts.specs.Layouts.{layoutFor, base}
+use Rattle.layouts.specs.declared.layouts.Layout.{Layout}
+use Rattle.layouts.specs.declared.kinds.Kind.{Kind}
+use Rattle.layouts.specs.declared.kinds.Kind.the-variants.{FatDos, ExFat, Dttm, BitDate, BitDec, Bcd, Moto, Symantec, Dvr, Ns40, Ns40Le, LogTime, SemiOctet, Gsm}
+use Rattle.registry.specs.Words.{localDecode, fieldsEncode}
 use Rattle.loss.specs.Loss.{NotAfter, plain}
-use Rattle.loss.proofs.Numbers.{kindNumber}
+use Rattle.registry.specs.Promises.{kindNumber}
 use Rattle.loss.proofs.Regular.{Regular}
 use Rattle.loss.proofs.Round.{cut, time, accepted, time-is-good}
 use Rattle.loss.proofs.Latest.{not-after, whole-not-after, whole-steps, said, cut-latest}
 use Rattle.loss.proofs.Plain.{Decent, PlainWord, PlainIn}
+use Rattle.gregorian.specs.Gregorian.{epochDay}
+use Rattle.instant.specs.Instants.{at}
+use lib.Dec.{T}
 
 -- ---- the latest
 
@@ -37,12 +40,12 @@ cut-not-after : (c : Civil) (k : ℕ) → ltZ (secondsOf c) (secondsOf (withSeco
 cut-not-after c k =
     let d = withSecond c (c .second / k * k) in
     let m = div-mul-le-self (c .second) k in
-    rw (seconds-are c, seconds-are d, order 377736739200 (secondsN c) (secondsN d)) (le-ltb (secondsN c) (secondsN d) (omega arith))
+    rw (seconds-are c, seconds-are d, order (epochDay * 86400) (secondsN c) (secondsN d)) (le-ltb (secondsN c) (secondsN d) (omega arith))
 
 module _ (l : Layout) (r : Regular l) (t : Instant) (w : ℤ) (e : fieldsEncode l t ≡ gives w) where
   -- what the word of t says
   abbrev pub answer : Instant
-  answer = record { seconds = secondsOf (cut l r t w e); nanos = 0 }
+  answer = at (secondsOf (cut l r t w e)) 0
 
   pub second-of : secondsOf (time l r t w e) ≡ t .seconds
   second-of = seconds-of-their-fields (t .seconds) (accepted l r t w e .inside) .1
@@ -51,7 +54,7 @@ module _ (l : Layout) (r : Regular l) (t : Instant) (w : ℤ) (e : fieldsEncode 
   not-late =
       whole-not-after answer t refl (subst (λ s. ltZ s (secondsOf (cut l r t w e)) ≡ false) second-of (cut-not-after (time l r t w e) (l .second .step)))
 
-  pub none-later : (v : ℕ) (x : Instant) → fieldsDecode l v ≡ gives x → NotAfter x t → NotAfter x answer
+  pub none-later : (v : ℕ) (x : Instant) → localDecode l v ≡ gives x → NotAfter x t → NotAfter x answer
   unfolding fieldsIn
   none-later v x h b =
       let s = said l v x h in
@@ -68,21 +71,21 @@ module _ (l : Layout) (r : Regular l) (t : Instant) (w : ℤ) (e : fieldsEncode 
 free : (l : Layout) (low top p : ℕ) → ((n : ℕ) → Decent (l .digits) n) → p % base (l .digits) ^ low ≡ 0 → p < base (l .digits) ^ top → PlainWord l low top p
 free l low top p d b a = record { below = b; above = a; year = d _; month = d _; day = d _; hour = d _; minute = d _; second = d _ }
 
-pub plain-of : (k : Kind) (w : ℕ) → ordered (layoutFor k .order) w < layoutFor k .words → plain (kindNumber k) w ≡ true → PlainIn (layoutFor k) (ordered (layoutFor k .order) w)
+pub plain-of : (k : Kind) (w : ℕ) → layoutFor k .zoned ≡ false → ordered (layoutFor k .order) w < layoutFor k .words → plain (kindNumber k) w ≡ true → PlainIn (layoutFor k) (ordered (layoutFor k .order) w)
 unfolding ordered
-plain-of FatDos w h k = inl (omega arith, free (layoutFor FatDos) 0 32 w (λ n. tt) (mod-one w) h)
-plain-of ExFat w h k = inl (omega arith, free (layoutFor ExFat) 0 32 w (λ n. tt) (mod-one w) h)
-plain-of Dttm w h k = inl (omega arith, free (layoutFor Dttm) 0 29 w (λ n. tt) (mod-one w) (omega (arith, eqb-true (w / 2 ^ 29 % 2 ^ 3) 0 k)))
-plain-of BitDate w h k = inl (omega arith, free (layoutFor BitDate) 0 32 _ (λ n. tt) (mod-one _) h)
-plain-of BitDec w h k = inl (omega arith, free (layoutFor BitDec) 0 35 w (λ n. tt) (mod-one w) h)
-plain-of Bcd w h k = inl (omega arith, free (layoutFor Bcd) 0 6 w (λ n. tt) (mod-one w) h)
-plain-of Moto w h k = inl (omega arith, free (layoutFor Moto) 0 48 w (λ n. tt) (mod-one w) h)
-plain-of Symantec w h k = inl (omega arith, free (layoutFor Symantec) 0 48 w (λ n. tt) (mod-one w) h)
-plain-of Dvr w h k = inl (omega arith, free (layoutFor Dvr) 0 32 w (λ n. tt) (mod-one w) h)
-plain-of Ns40 w h k = inl (omega arith, free (layoutFor Ns40) 0 56 w (λ n. tt) (mod-one w) (omega arith))
-plain-of Ns40Le w h k = inl (omega arith, free (layoutFor Ns40Le) 0 56 _ (λ n. tt) (mod-one _) (omega arith))
-plain-of LogTime w h k = inr (omega arith, free (layoutFor LogTime) 16 64 w (λ n. tt) (omega (arith, eqb-true (w / 2 ^ 0 % 2 ^ 16) 0 k)) (omega arith))
-plain-of SemiOctet w h k = inl (
+plain-of FatDos w z h k = inl (omega arith, free (layoutFor FatDos) 0 32 w (λ n. tt) (mod-one w) h)
+plain-of ExFat w z h k = inl (omega arith, free (layoutFor ExFat) 0 32 w (λ n. tt) (mod-one w) h)
+plain-of Dttm w z h k = inl (omega arith, free (layoutFor Dttm) 0 29 w (λ n. tt) (mod-one w) (omega (arith, eqb-true (w / 2 ^ 29 % 2 ^ 3) 0 k)))
+plain-of BitDate w z h k = inl (omega arith, free (layoutFor BitDate) 0 32 _ (λ n. tt) (mod-one _) h)
+plain-of BitDec w z h k = inl (omega arith, free (layoutFor BitDec) 0 35 w (λ n. tt) (mod-one w) h)
+plain-of Bcd w z h k = inl (omega arith, free (layoutFor Bcd) 0 6 w (λ n. tt) (mod-one w) h)
+plain-of Moto w z h k = inl (omega arith, free (layoutFor Moto) 0 48 w (λ n. tt) (mod-one w) h)
+plain-of Symantec w z h k = inl (omega arith, free (layoutFor Symantec) 0 48 w (λ n. tt) (mod-one w) h)
+plain-of Dvr w z h k = inl (omega arith, free (layoutFor Dvr) 0 32 w (λ n. tt) (mod-one w) h)
+plain-of Ns40 w z h k = inl (omega arith, free (layoutFor Ns40) 0 56 w (λ n. tt) (mod-one w) (omega arith))
+plain-of Ns40Le w z h k = inl (omega arith, free (layoutFor Ns40Le) 0 56 _ (λ n. tt) (mod-one _) (omega arith))
+plain-of LogTime w z h k = inr (omega arith, free (layoutFor LogTime) 16 64 w (λ n. tt) (omega (arith, eqb-true (w / 2 ^ 0 % 2 ^ 16) 0 k)) (omega arith))
+plain-of SemiOctet w z h k = inl (
   omega arith,
   record {
     below = mod-one w;
@@ -95,3 +98,4 @@ plain-of SemiOctet w h k = inl (
     second = omega arith;
   },
 )
+plain-of Gsm w z h k = absurd (subst T z tt)

@@ -12,23 +12,25 @@ use mir.Syntax.{w64}
 use mir.Val.{SFits, ofZ}
 use borrow.Author.Tests.{leb-true}
 use Rattle.refusal.specs.Answers.{Answer, gives, refused}
-use Rattle.refusal.proofs.Answers.{clash}
+use Rattle.refusal.proofs.Answers.{clash, given-under}
 use Rattle.signed.proofs.Tests.{and-left, and-right}
 use Rattle.instant.specs.declared.instants.Instant.{Instant}
-use Rattle.civil.specs.Times.{secondsOf}
-use Rattle.civil.specs.Promises.{withSecond}
-use Rattle.places.specs.Orders.{ordered}
-use Rattle.fields.specs.Layouts.{gsm}
-use Rattle.fields.specs.declared.layouts.Digits.the-variants.{SemiOctets}
-use Rattle.registry.specs.Words.{fieldsDecode, fieldsEncode, zoneSeconds, lessZone, thenZone, gsmDecode}
+use Rattle.day_time.specs.Times.{secondsOf}
+use Rattle.day_time.specs.Promises.{withSecond}
+use Rattle.byte_orders.specs.Orders.{ordered}
+use Rattle.layouts.specs.Layouts.{gsm}
+use Rattle.layouts.specs.declared.layouts.Digits.the-variants.{SemiOctets}
+use Rattle.layouts.specs.declared.kinds.Kind.the-variants.{Gsm}
+use Rattle.registry.specs.Words.{localDecode, fieldsDecode, fieldsEncode, zoneSeconds, lessZone, thenZone}
 use Rattle.loss.specs.Loss.{NotAfter, digits}
 use Rattle.loss.proofs.Chain.{multiple}
-use Rattle.loss.proofs.Regular.{regular-gsm}
+use Rattle.loss.proofs.Regular.{regular}
 use Rattle.loss.proofs.Trip.{down-list, down-chain, down-sum}
-use Rattle.loss.proofs.Round.{given-under, packing, accepted, time, comes-back}
+use Rattle.loss.proofs.Round.{packing, accepted, time, comes-back}
 use Rattle.loss.proofs.Latest.{not-after, whole-not-after, said}
 use Rattle.loss.proofs.Plain.{Decent, PlainWord, plain-back}
 use Rattle.loss.proofs.CivilLoss.{answer, not-late, second-of}
+use Rattle.instant.specs.Instants.{at}
 
 -- ---- zones
 
@@ -37,7 +39,7 @@ unfolding lessZone
 zone-zero x = rw (+ℤ-idr (x .seconds))
 
 -- a word that says an instant says a local one, and its zone takes it there
-local-of : (z : ℕ) (a : Answer Instant) (x : Instant) → thenZone z a ≡ gives x → (y : Instant) × (a ≡ gives y) × (lessZone z y ≡ gives x)
+local-of : (z : ℕ) (a : Answer Instant) (x : Instant) → thenZone true z a ≡ gives x → (y : Instant) × (a ≡ gives y) × (lessZone z y ≡ gives x)
 local-of z (gives y) x e = (y, refl, e)
 local-of z (refused n) x e = absurd (clash n x (refused n) refl e)
 
@@ -45,46 +47,46 @@ local-of z (refused n) x e = absurd (clash n x (refused n) refl e)
 same-nanos : (z : ℕ) (y x : Instant) → lessZone z y ≡ gives x → x .nanos ≡ y .nanos
 unfolding lessZone
 same-nanos z y x e =
-    let m : record { seconds = y .seconds -ℤ zoneSeconds z; nanos = y .nanos } ≡ x = given (given-under (leb (z / 16) 9) (gives (record { seconds = y .seconds -ℤ zoneSeconds z; nanos = y .nanos })) 4 x e .1) in
+    let m : at (y .seconds -ℤ zoneSeconds z) (y .nanos) ≡ x = given (given-under (leb (z / 16) 9) (gives (at (y .seconds -ℤ zoneSeconds z) (y .nanos))) 4 x e .1) in
     sym (ap (λ i. i .nanos) m)
   where
     given : {a b : Instant} → gives a ≡ gives b → a ≡ b
     given e = cc
 
-whole-second : (v : ℕ) (x : Instant) → gsmDecode v ≡ gives x → x .nanos ≡ 0
-unfolding gsmDecode
+whole-second : (v : ℕ) (x : Instant) → fieldsDecode gsm v ≡ gives x → x .nanos ≡ 0
+unfolding fieldsDecode
 whole-second v x e =
-    let a = local-of (v % 2 ^ 8) (fieldsDecode gsm v) x e in
+    let a = local-of (v % 2 ^ 8) (localDecode gsm v) x e in
     same-nanos (v % 2 ^ 8) (a .0) x (a .2) ∙ said gsm v (a .0) (a .1) .nanos
 
 -- ---- there and back
 
 module _ (t : Instant) (w : ℤ) (e : fieldsEncode gsm t ≡ gives w) where
   abbrev there : Instant
-  there = answer gsm regular-gsm t w e
+  there = answer gsm (regular Gsm) t w e
 
   zone-byte : ofZ w64 w % 2 ^ 8 ≡ 0
   unfolding ordered
   zone-byte =
-      let c = time gsm regular-gsm t w e in
-      let p = packing gsm regular-gsm t w e in
-      let s = down-sum gsm regular-gsm _ c p in
-      let m = multiple 2 8 (down-list gsm regular-gsm _ c p) (down-chain gsm regular-gsm _ c p (omega arith)) in
-      rw (← accepted gsm regular-gsm t w e .word, ← s, m .1, zero-add (m .0 * 2 ^ 8)) (mul-mod-left (m .0) (2 ^ 8))
+      let c = time gsm (regular Gsm) t w e in
+      let p = packing gsm (regular Gsm) t w e in
+      let s = down-sum gsm (regular Gsm) _ c p in
+      let m = multiple 2 8 (down-list gsm (regular Gsm) _ c p) (down-chain gsm (regular Gsm) _ c p (omega arith)) in
+      rw (← accepted gsm (regular Gsm) t w e .word, ← s, m .1, zero-add (m .0 * 2 ^ 8)) (mul-mod-left (m .0) (2 ^ 8))
 
-  pub gsm-back : gsmDecode (ofZ w64 w) ≡ gives there
-  unfolding gsmDecode
-  gsm-back = rw (zone-byte, comes-back gsm regular-gsm t w e) (zone-zero there)
+  pub gsm-back : fieldsDecode gsm (ofZ w64 w) ≡ gives there
+  unfolding fieldsDecode
+  gsm-back = rw (zone-byte, comes-back gsm (regular Gsm) t w e) (zone-zero there)
 
   same-second : there .seconds ≡ t .seconds
   same-second =
-      let c = time gsm regular-gsm t w e in
-      ap (λ n. secondsOf (withSecond c n)) (mul-one (c .second / 1) ∙ div-one (c .second)) ∙ second-of gsm regular-gsm t w e
+      let c = time gsm (regular Gsm) t w e in
+      ap (λ n. secondsOf (withSecond c n)) (mul-one (c .second / 1) ∙ div-one (c .second)) ∙ second-of gsm (regular Gsm) t w e
 
   pub gsm-not-late : NotAfter there t
-  gsm-not-late = not-late gsm regular-gsm t w e
+  gsm-not-late = not-late gsm (regular Gsm) t w e
 
-  pub gsm-none-later : (v : ℕ) (x : Instant) → gsmDecode v ≡ gives x → NotAfter x t → NotAfter x there
+  pub gsm-none-later : (v : ℕ) (x : Instant) → fieldsDecode gsm v ≡ gives x → NotAfter x t → NotAfter x there
   gsm-none-later v x h b =
       let z = whole-second v x h in
       whole-not-after x there z (rw same-second (not-after x t z b))
@@ -121,12 +123,12 @@ plain-digits v h z d = record {
         let e : 4 * (i + 1) ≡ 4 * i + 4 = omega arith in
         decent v i (digit-at 14 i v d (omega arith)) (subst (λ n. v / 2 ^ n % 16 ≤ 9) e (digit-at 14 (i + 1) v d l))
 
-pub gsm-plain : (w : ℤ) (t : Instant) → SFits w64 w → ofZ w64 w % 2 ^ 8 ≡ 0 → digits 14 (ofZ w64 w) ≡ true → gsmDecode (ofZ w64 w) ≡ gives t
+pub gsm-plain : (w : ℤ) (t : Instant) → SFits w64 w → ofZ w64 w % 2 ^ 8 ≡ 0 → digits 14 (ofZ w64 w) ≡ true → fieldsDecode gsm (ofZ w64 w) ≡ gives t
     → fieldsEncode gsm t ≡ gives w
-unfolding gsmDecode ordered
+unfolding fieldsDecode ordered
 gsm-plain w t f z d e =
     let v = ofZ w64 w in
-    let a = local-of (v % 2 ^ 8) (fieldsDecode gsm v) t e in
+    let a = local-of (v % 2 ^ 8) (localDecode gsm v) t e in
     let same : gives (a .0) ≡ gives t = sym (zone-zero (a .0)) ∙ ap (λ n. lessZone n (a .0)) (sym z) ∙ a .2 in
     let s = said gsm v t (a .1 ∙ same) in
-    plain-back gsm regular-gsm w f t s (inl (omega arith, plain-digits v (s .below) z d))
+    plain-back gsm (regular Gsm) w f t s (inl (omega arith, plain-digits v (s .below) z d))

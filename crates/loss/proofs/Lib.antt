@@ -1,6 +1,4 @@
-pub mod Numbers
 pub mod Chain
-pub mod ByteOrders
 pub mod Regular
 pub mod Trip
 pub mod Round

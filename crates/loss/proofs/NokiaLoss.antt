@@ -11,16 +11,16 @@ use mir.Syntax.{w64}
 use mir.Val.{SFits, ofZ}
 use borrow.Author.Tests.{lt-ltb, le-ltb, ltb-true}
 use Rattle.refusal.specs.Answers.{gives, refused}
-use Rattle.refusal.proofs.Answers.{clash, held}
+use Rattle.refusal.proofs.Answers.{clash, held, given-under}
 use Rattle.instant.specs.declared.instants.Instant.{Instant}
-use Rattle.places.specs.Orders.{reversed}
+use Rattle.byte_orders.specs.Orders.{reversed}
 use Rattle.counts.specs.Nokia.{nokiaDecode, nokiaWord, nokiaEncode}
 use Rattle.counts.proofs.NokiaSeconds.{reversed-small, counted}
-use Rattle.registry.proofs.Promises.{ranges}
+use Rattle.signed.proofs.Promises.{negative-bits}
 use Rattle.loss.specs.Loss.{Latest}
-use Rattle.loss.proofs.ByteOrders.{reversed-back}
-use Rattle.loss.proofs.Round.{given-under}
+use Rattle.byte_orders.proofs.Bytes.{reversed-back}
 use Rattle.loss.proofs.Latest.{not-after, whole-not-after}
+use Rattle.instant.specs.Instants.{at}
 
 -- ---- seconds and their count
 
@@ -50,15 +50,15 @@ counts : (z w : ℤ) → nokiaWord z ≡ gives w → (p : ℕ) × (z ≡ pos p) 
 counts (pos p) w e = let h = held (ltb p (2 ^ 32)) w (pos (reversed p)) 8 (sym e) in (p, refl, ltb-true p (2 ^ 32) (h .0), h .1)
 counts (negsuc n) w e = absurd (clash 8 w (refused 8) refl e)
 
-said : (n : ℕ) (t : Instant) → nokiaDecode n ≡ gives t → (n < 2 ^ 32) × (t ≡ record { seconds = secondsAt (pos (reversed n)); nanos = 0 })
+said : (n : ℕ) (t : Instant) → nokiaDecode n ≡ gives t → (n < 2 ^ 32) × (t ≡ at (secondsAt (pos (reversed n))) 0)
 unfolding nokiaDecode
 said n t e =
-    let h = held (ltb n (2 ^ 32)) t (record { seconds = secondsAt (pos (reversed n)); nanos = 0 }) 2 (sym e) in
+    let h = held (ltb n (2 ^ 32)) t (at (secondsAt (pos (reversed n))) 0) 2 (sym e) in
     (ltb-true n (2 ^ 32) (h .0), h .1)
 
 -- ---- the three laws
 
-pub nokia-decodes : (t : Instant) (w : ℤ) → nokiaEncode t ≡ gives w → nokiaDecode (ofZ w64 w) ≡ gives (record { seconds = t .seconds; nanos = 0 })
+pub nokia-decodes : (t : Instant) (w : ℤ) → nokiaEncode t ≡ gives w → nokiaDecode (ofZ w64 w) ≡ gives (at (t .seconds) 0)
 unfolding nokiaEncode
 nokia-decodes t w e =
     let g = given-under (leb (t .nanos) 999999999) (nokiaWord (countOf (t .seconds))) 9 w e in
@@ -66,7 +66,7 @@ nokia-decodes t w e =
     let p = c .0 in
     let back : secondsAt (pos (reversed (reversed p))) ≡ t .seconds = ap (λ n. secondsAt (pos n)) (reversed-back p) ∙ ap secondsAt (sym (c .1)) ∙ seconds-back (t .seconds) in
     ap (λ z. nokiaDecode (ofZ w64 z)) (c .3) ∙ counted (reversed p) (omega (arith, reversed-small p (c .2)))
-    ∙ (λ i. gives (record { seconds = back i; nanos = 0 }))
+    ∙ (λ i. gives (at (back i) 0))
 
 -- no second is before itself
 not-itself : (z : ℤ) → ltZ z z ≡ false
@@ -76,7 +76,7 @@ not-itself (negsuc n) = le-ltb n n (omega arith)
 pub nokia-latest : (t u : Instant) (w : ℤ) → nokiaEncode t ≡ gives w → nokiaDecode (ofZ w64 w) ≡ gives u → Latest (λ v x. nokiaDecode (ofZ w64 v) ≡ gives x) t u
 nokia-latest t u w e d =
     let a = nokia-decodes t w e in
-    let r : u ≡ record { seconds = t .seconds; nanos = 0 } = cc in
+    let r : u ≡ at (t .seconds) 0 = cc in
     let s = ap (λ i. i .seconds) r in (
       whole-not-after u t (ap (λ i. i .nanos) r) (rw s (not-itself (t .seconds))),
       λ v x f y h.
@@ -89,4 +89,4 @@ unfolding nokiaEncode
 nokia-plain (pos n) t f e =
     let h = said n t e in
     ap nokiaEncode (h .1) ∙ rw (count-back (pos (reversed n)), lt-ltb (reversed n) (2 ^ 32) (reversed-small n (h .0)), reversed-back n)
-nokia-plain (negsuc n) t f e = let h = said (ofZ w64 (negsuc n)) t e .0 in absurd (omega (arith, ranges .4 n f))
+nokia-plain (negsuc n) t f e = let h = said (ofZ w64 (negsuc n)) t e .0 in absurd (omega (arith, negative-bits n f))

@@ -12,22 +12,22 @@ use mir.Val.{SFits, ofZ}
 use borrow.Author.Tests.{le-leb, le-ltb}
 use Rattle.refusal.specs.Answers.{gives}
 use Rattle.instant.specs.declared.instants.Instant.{Instant}
-use Rattle.civil.specs.Times.{good, secondsOf}
-use Rattle.civil.specs.Promises.{Ranged}
-use Rattle.civil.specs.declared.times.Civil.{Civil}
-use Rattle.civil.proofs.Promises.{fields-of-their-seconds, field-ranges}
-use Rattle.places.specs.Orders.{ordered}
-use Rattle.fields.specs.Reading.{base, semi, stored, valueOf, valueIn, fieldsIn}
-use Rattle.fields.specs.declared.layouts.Field.{Field}
-use Rattle.fields.specs.declared.layouts.Layout.{Layout}
-use Rattle.fields.specs.declared.layouts.Digits.{Digits}
-use Rattle.fields.specs.declared.layouts.Digits.the-variants.{Bits, Pairs, SwappedPairs, SemiOctets}
+use Rattle.day_time.specs.Times.{good, secondsOf}
+use Rattle.day_time.specs.Promises.{Ranged}
+use Rattle.day_time.specs.declared.times.Civil.{Civil}
+use Rattle.day_time.proofs.Promises.{fields-of-their-seconds, field-ranges}
+use Rattle.byte_orders.specs.Orders.{ordered}
+use Rattle.layouts.specs.Layouts.{base}
+use Rattle.unpacking.specs.Reading.{semi, stored, valueOf, valueIn, fieldsIn}
+use Rattle.layouts.specs.declared.layouts.Field.{Field}
+use Rattle.layouts.specs.declared.layouts.Layout.{Layout}
+use Rattle.layouts.specs.declared.layouts.Digits.{Digits}
+use Rattle.layouts.specs.declared.layouts.Digits.the-variants.{Bits, Pairs, SwappedPairs, SemiOctets}
 use Rattle.packing.specs.Writing.{numeral, packed}
-use Rattle.packing.proofs.Packing.{ordered-small}
 use Rattle.registry.specs.Words.{fieldsEncode}
-use Rattle.registry.proofs.Promises.{ranges}
+use Rattle.signed.proofs.Promises.{negative-bits}
 use Rattle.loss.proofs.Chain.{Slot, Read, endOf, rebuilt}
-use Rattle.loss.proofs.ByteOrders.{ordered-back}
+use Rattle.byte_orders.proofs.Promises.{undoes-itself, stays-below}
 use Rattle.loss.proofs.Regular.{Down, Up, Regular, reaches}
 use Rattle.loss.proofs.Trip.{slot, base-pos}
 use Rattle.loss.proofs.Latest.{Said}
@@ -181,7 +181,7 @@ written-fields l c y x z s g e lo hi =
 -- a word below 2^63 is its bits
 same-word : (w : ℤ) → SFits w64 w → ofZ w64 w < 2 ^ 63 → pos (ofZ w64 w) ≡ w
 same-word (pos n) f h = refl
-same-word (negsuc n) f h = absurd (omega (arith, ranges .4 n f))
+same-word (negsuc n) f h = absurd (omega (arith, negative-bits n f))
 
 -- a layout's plain words, whichever way its fields run
 abbrev pub PlainIn : Layout → ℕ → Type 0
@@ -213,11 +213,11 @@ module _ (l : Layout) (r : Regular l) (w : ℤ) (f : SFits w64 w) (x : Instant) 
 
   small : ofZ w64 w < 2 ^ 63
   small =
-      let o = ordered-small (l .order) bits (omega (arith, s .below, r .writes .words)) in
-      rw (ordered-back (l .order) (ofZ w64 w)) at o
+      let o = stays-below (l .order) bits (omega (arith, s .below, r .writes .words)) in
+      rw (undoes-itself (l .order) (ofZ w64 w)) at o
 
   pub plain-back : fieldsEncode l x ≡ gives w
   unfolding fieldsIn
   plain-back =
       written-fields l (fieldsIn l bits) (valueIn l (l .year) bits) x (s .nanos) (s .seconds) (s .good-fields) refl (year-range .0) year-last
-      ∙ ap (λ n. gives (pos (ordered (l .order) n))) same-bits ∙ ap (λ n. gives (pos n)) (ordered-back (l .order) (ofZ w64 w)) ∙ ap gives (same-word w f small)
+      ∙ ap (λ n. gives (pos (ordered (l .order) n))) same-bits ∙ ap (λ n. gives (pos n)) (undoes-itself (l .order) (ofZ w64 w)) ∙ ap gives (same-word w f small)

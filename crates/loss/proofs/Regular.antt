@@ -4,16 +4,16 @@ use mathlib.Core.Path.{_≡_, refl}
 use mathlib.Core.Logic.{_⊎_, inl, inr}
 use Prim.Native.Nat.{ℕ, _+_, _-_, _^_, _≤_}
 use native.Mathlib.Omega.{arith}
-use Rattle.fields.specs.Layouts.{gsm, layoutFor}
-use Rattle.fields.specs.Parts.{Sound}
-use Rattle.fields.specs.declared.layouts.Layout.{Layout}
-use Rattle.fields.specs.declared.layouts.Digits.{Digits}
-use Rattle.fields.specs.declared.layouts.Digits.the-variants.{Bits, Pairs, SwappedPairs, SemiOctets}
-use Rattle.fields.specs.declared.kinds.Kind.{Kind}
-use Rattle.fields.specs.declared.kinds.Kind.the-variants.{FatDos, ExFat, Dttm, BitDate, BitDec, Bcd, Moto, Symantec, Dvr, Ns40, Ns40Le, LogTime, SemiOctet}
-use Rattle.fields.proofs.Fourteen.{sound, gsm-sound}
+use Rattle.layouts.specs.Layouts.{layoutFor}
+use Rattle.unpacking.specs.Parts.{Sound}
+use Rattle.layouts.specs.declared.layouts.Layout.{Layout}
+use Rattle.layouts.specs.declared.layouts.Digits.{Digits}
+use Rattle.layouts.specs.declared.layouts.Digits.the-variants.{Bits, Pairs, SwappedPairs, SemiOctets}
+use Rattle.layouts.specs.declared.kinds.Kind.{Kind}
+use Rattle.layouts.specs.declared.kinds.Kind.the-variants.{FatDos, ExFat, Dttm, BitDate, BitDec, Bcd, Moto, Symantec, Dvr, Ns40, Ns40Le, LogTime, SemiOctet, Gsm}
+use Rattle.unpacking.proofs.Sound.{sound}
 use Rattle.packing.specs.Parts.{Writable}
-use Rattle.packing.proofs.Fourteen.{writable, gsm-writable}
+use Rattle.packing.proofs.Writable.{writable}
 
 -- from the second up to the year, or from the year up to the second
 pub record Down (l : Layout) : Type 0 where
@@ -78,6 +78,4 @@ regular Ns40 = record { readable = sound Ns40; writes = writable Ns40; stepped =
 regular Ns40Le = record { readable = sound Ns40Le; writes = writable Ns40Le; stepped = omega arith; whole = tt; order = inl (omega arith); reach = inl refl }
 regular LogTime = record { readable = sound LogTime; writes = writable LogTime; stepped = omega arith; whole = tt; order = inr (omega arith); reach = inr (omega arith) }
 regular SemiOctet = record { readable = sound SemiOctet; writes = writable SemiOctet; stepped = omega arith; whole = tt; order = inl (omega arith); reach = inr (omega arith) }
-
-pub regular-gsm : Regular gsm
-regular-gsm = record { readable = gsm-sound; writes = gsm-writable; stepped = omega arith; whole = refl; order = inl (omega arith); reach = inr (omega arith) }
+regular Gsm = record { readable = sound Gsm; writes = writable Gsm; stepped = omega arith; whole = refl; order = inl (omega arith); reach = inr (omega arith) }

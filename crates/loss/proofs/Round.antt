@@ -11,40 +11,36 @@ use mir.Syntax.{w64}
 use mir.Val.{ofZ}
 use borrow.Author.Tests.{lt-ltb, leb-true}
 use Rattle.refusal.specs.Answers.{Answer, gives, refused}
-use Rattle.refusal.proofs.Answers.{clash}
+use Rattle.refusal.proofs.Answers.{clash, given-under}
 use Rattle.signed.proofs.Differences.{low, high, most}
 use Rattle.signed.proofs.Tests.{le-leZ, and-left, and-right}
-use Rattle.lengths.specs.Lengths.{yearDays, yearAt}
-use Rattle.gregorian.specs.Gregorian.{yearsTo, daysOfYears}
+use Rattle.month_lengths.specs.Lengths.{yearDays, yearAt}
+use Rattle.gregorian.specs.Gregorian.{yearsTo, daysOfYears, epochDay}
 use Rattle.gregorian.proofs.YearSums.{closed-is, years-suc}
 use Rattle.gregorian.proofs.Wholes.{rises}
 use Rattle.gregorian.proofs.Trip.{in-its-year}
 use Rattle.instant.specs.declared.instants.Instant.{Instant}
-use Rattle.civil.specs.Times.{inWindow, good, secondsOf, fieldsAt}
-use Rattle.civil.specs.Answers.{fieldsFor}
-use Rattle.civil.specs.Promises.{Ranged, withSecond}
-use Rattle.civil.specs.declared.times.Civil.{Civil}
-use Rattle.civil.proofs.Window.{time-good}
-use Rattle.civil.proofs.Days.{window-high}
-use Rattle.civil.proofs.Order.{secondsN, seconds-are}
-use Rattle.civil.proofs.Promises.{seconds-of-their-fields, field-ranges, its-date, its-window, its-hour, its-minute, its-second}
-use Rattle.places.specs.Orders.{ordered}
-use Rattle.fields.specs.Reading.{fieldsIn}
-use Rattle.fields.specs.declared.layouts.Layout.{Layout}
+use Rattle.day_time.specs.Times.{inWindow, good, secondsOf, fieldsAt}
+use Rattle.day_time.specs.Answers.{fieldsFor}
+use Rattle.day_time.specs.Promises.{Ranged, withSecond}
+use Rattle.day_time.specs.declared.times.Civil.{Civil}
+use Rattle.day_time.proofs.Window.{time-good}
+use Rattle.day_time.proofs.Days.{window-high}
+use Rattle.day_time.proofs.Order.{secondsN, seconds-are}
+use Rattle.day_time.proofs.Promises.{seconds-of-their-fields, field-ranges, its-date, its-window, its-hour, its-minute, its-second}
+use Rattle.byte_orders.specs.Orders.{ordered}
+use Rattle.unpacking.specs.Reading.{fieldsIn}
+use Rattle.layouts.specs.declared.layouts.Layout.{Layout}
 use Rattle.packing.specs.Writing.{packed, writes, writeFields}
 use Rattle.packing.specs.Parts.{Packing}
 use Rattle.packing.proofs.Packing.{packed-words}
-use Rattle.registry.specs.Words.{fieldsDecode, fieldsEncode}
-use Rattle.loss.proofs.ByteOrders.{ordered-back}
+use Rattle.registry.specs.Words.{localDecode, fieldsEncode}
+use Rattle.byte_orders.proofs.Promises.{undoes-itself}
 use Rattle.loss.proofs.Regular.{Regular}
 use Rattle.loss.proofs.Trip.{cutCivil, fields-back}
+use Rattle.instant.specs.Instants.{at}
 
 -- ---- what an accepted instant is
-
--- an answer that is given under a test: the test held
-pub given-under : {A : Type 0} (b : Bool) (x : Answer A) (k : ℕ) (v : A) → cond b x (refused k) ≡ gives v → (b ≡ true) × (x ≡ gives v)
-given-under true x k v e = (refl, e)
-given-under false x k v e = absurd (clash k v (refused k) refl e)
 
 -- a year that is written is not negative, and lies in the encoder's years
 pub year-written : (l : Layout) (y : ℤ) → writes l y ≡ true → (y ≡ pos (natAbs y)) × (l .year .offset ≤ natAbs y) × (natAbs y ≤ l .last)
@@ -108,10 +104,10 @@ cut-good c y j e g h =
     let n = secondsN c in
     let m = secondsN (withSecond c j) in
     let s = its-second c g in
-    let top = most 253402207200 n 377736739200 (subst (λ z. z ≤ℤ pos 253402207200) (seconds-are c) (window-high (secondsOf c) (its-window c g))) in
+    let top = most 253402207200 n (epochDay * 86400) (subst (λ z. z ≤ℤ pos 253402207200) (seconds-are c) (window-high (secondsOf c) (its-window c g))) in
     let from : 315569520000 ≤ n = after-year-zero c y e g in
     let w : inWindow (secondsOf (withSecond c j)) ≡ true =
-    rw (seconds-are (withSecond c j), le-leZ (low 377705023200 m 377736739200 (omega arith))) (le-leZ (high 253402207200 m 377736739200 (omega arith)))
+    rw (seconds-are (withSecond c j), le-leZ (low 377705023200 m (epochDay * 86400) (omega arith))) (le-leZ (high 253402207200 m (epochDay * 86400) (omega arith)))
     in
     rw (its-date c g, time-good (c .hour) (c .minute) j (its-hour c g) (its-minute c g) (omega arith)) w
 
@@ -146,9 +142,9 @@ module _ (l : Layout) (r : Regular l) (t : Instant) (w : ℤ) (e : fieldsEncode 
   pub cut-is-good : good cut ≡ true
   cut-is-good = cut-good time (natAbs (time .year)) (time .second / l .second .step * l .second .step) year-is time-is-good (div-mul-le-self (time .second) (l .second .step))
 
-  pub comes-back : fieldsDecode l (ofZ w64 w) ≡ gives (record { seconds = secondsOf cut; nanos = 0 })
-  unfolding fieldsDecode
+  pub comes-back : localDecode l (ofZ w64 w) ≡ gives (at (secondsOf cut) 0)
+  unfolding localDecode
   comes-back =
       let p = packed l (natAbs (time .year)) time in
       let f : fieldsIn l p ≡ cut = fields-back l r (natAbs (time .year)) time packing ∙ cut-second l r (natAbs (time .year)) time (packing .ranged) (packing .first) year-is in
-      rw (← accepted .word, ordered-back (l .order) p, lt-ltb p (l .words) (packed-words l (natAbs (time .year)) time packing), f, cut-is-good)
+      rw (← accepted .word, undoes-itself (l .order) p, lt-ltb p (l .words) (packed-words l (natAbs (time .year)) time packing), f, cut-is-good)

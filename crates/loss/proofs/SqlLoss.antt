@@ -13,101 +13,20 @@ use mir.Syntax.{w64}
 use mir.Val.{SFits, ofZ}
 use borrow.Author.Tests.{lt-ltb, le-ltb, le-leb, ltb-true, leb-true, eqb-true, eqb-false, ne-eqb}
 use Rattle.refusal.specs.Answers.{gives}
-use Rattle.refusal.proofs.Answers.{clash, held}
+use Rattle.refusal.proofs.Answers.{clash, held, given-under}
 use Rattle.signed.specs.Floor.{floorDiv, floorRem}
 use Rattle.signed.specs.Extend.{twos}
-use Rattle.signed.proofs.Differences.{sub-ge, sub-lt, neg-plus, across, plus, times-plus, order}
+use Rattle.signed.proofs.Differences.{sub-ge, sub-lt, neg-plus, across, plus, times-plus, order, Difference, difference, times, less-natural, less-difference, gap, size, at-most}
 use Rattle.signed.proofs.Floor.{floor-law, floor-back}
 use Rattle.signed.proofs.Extend.{lower-half, upper-half}
 use Rattle.signed.proofs.Tests.{test-ge, and-left}
 use Rattle.instant.specs.declared.instants.Instant.{Instant}
-use Rattle.counts.specs.Sql.{sqlDay, sqlTicks, sqlDecode, nearestTick, dayWord, rolled, sqlWord, sqlEncode}
+use Rattle.counts.specs.Sql.{sqlDay, sqlTicks, sqlDecode, nearestTick, dayWord, rolled, sqlWord, sqlEncode, exactTicks, thirds}
+use Rattle.counts.proofs.SqlParts.{read, whole, day-held, small-day}
 use Rattle.counts.proofs.SqlDays.{no-ticks, ticks, time-small}
 use Rattle.registry.specs.Words.{ruleFor}
-use Rattle.loss.specs.Loss.{Decodes, exactTicks, thirds, Nearest}
-use Rattle.loss.proofs.Round.{given-under}
-
--- ---- differences
-
--- every signed number is one
-record Difference (z : ℤ) : Type 0 where
-  more : ℕ
-  less : ℕ
-  is : z ≡ subℕ more less
-
-difference : (z : ℤ) → Difference z
-difference (pos n) = record { more = n; less = 0; is = sym (sub-ge n 0 (omega arith) ∙ ap pos (omega arith)) }
-difference (negsuc n) = record { more = 0; less = suc n; is = sym (sub-lt 0 (suc n) (omega arith) ∙ ap negsuc (omega arith)) }
-
--- times a number, less another, their size and their order
-times : (a b k : ℕ) → subℕ a b *ℤ pos k ≡ subℕ (a * k) (b * k)
-times a b k = sym (+ℤ-idr (subℕ a b *ℤ pos k)) ∙ times-plus a b k 0 ∙ across (a * k + 0) (b * k) (a * k) (b * k) (omega arith)
-
-less-natural : (a b n : ℕ) → subℕ a b -ℤ pos n ≡ subℕ a (b + n)
-less-natural a b n =
-    ap (λ z. z -ℤ pos n) (across a b (a + n) (b + n) (omega arith) ∙ sym (plus a (b + n) n)) ∙ +ℤ-negℤ-cancel (subℕ a (b + n)) (pos n)
-
-less-difference : (a b c d : ℕ) → subℕ a b -ℤ subℕ c d ≡ subℕ (a + d) (b + c)
-less-difference a b c d = go (decLt c d)
-  where
-    go : Dec (c < d) → subℕ a b -ℤ subℕ c d ≡ subℕ (a + d) (b + c)
-    go (yes h) = ap (λ z. subℕ a b -ℤ z) (sub-lt c d h) ∙ plus a b (suc (d - suc c)) ∙ across (a + suc (d - suc c)) b (a + d) (b + c) (omega arith)
-    go (no h) = ap (λ z. subℕ a b -ℤ z) (sub-ge c d (omega arith)) ∙ less-natural a b (c - d) ∙ across a (b + (c - d)) (a + d) (b + c) (omega arith)
-
-abbrev gap : ℕ → ℕ → ℕ
-gap a b = (a - b) + (b - a)
-
-size : (a b : ℕ) → natAbs (subℕ a b) ≡ gap a b
-size a b = go (decLt a b)
-  where
-    go : Dec (a < b) → natAbs (subℕ a b) ≡ gap a b
-    go (yes h) = ap natAbs (sub-lt a b h) ∙ omega arith
-    go (no h) = ap natAbs (sub-ge a b (omega arith)) ∙ omega arith
-
-at-most : (a b c d : ℕ) → a + d ≤ c + b → subℕ a b ≤ℤ subℕ c d
-at-most a b c d h =
-    rw (across a b (a + d) (b + d) (omega arith), across c d (c + b) (b + d) (omega arith))
-    (test-ge (order (b + d) (c + b) (a + d) ∙ le-ltb (c + b) (a + d) h))
-
--- ---- a day above its ticks, and the two read back
-
--- below zero: -(a + 1) times c, and less than c more
-below-zero : (a c k : ℕ) → k < c → negsuc a *ℤ pos c +ℤ pos k ≡ negsuc (a * c + (c - suc k))
-below-zero a c k l = neg-plus (suc a * c) k ∙ sub-lt k (suc a * c) (omega arith) ∙ ap negsuc (omega arith)
-
--- of a word that is made
-read : (d : ℤ) (k : ℕ) → mag d < 2 ^ 31 → k < 2 ^ 32 → let n = ofZ w64 (d *ℤ pos (2 ^ 32) +ℤ pos k) in (sqlDay n ≡ d) × (sqlTicks n ≡ k)
-read (pos a) k h l =
-    let q : (a * 2 ^ 32 + k) / 2 ^ 32 % 2 ^ 32 ≡ a = omega arith in
-    (ap (twos 32) q ∙ lower-half 32 a (omega arith), omega arith)
-read (negsuc a) k h l =
-    let n = 2 ^ 64 - suc (a * 2 ^ 32 + (2 ^ 32 - suc k)) in
-    let e : n ≡ (2 ^ 32 - suc a) * 2 ^ 32 + k = omega arith in
-    let q : n / 2 ^ 32 % 2 ^ 32 ≡ 2 ^ 32 - suc a = rw e (omega arith) in
-    rw (below-zero a (2 ^ 32) k l)
-    (ap (twos 32) q ∙ upper-half 32 (2 ^ 32 - suc a) (omega arith) (omega arith) ∙ ap negsuc (omega arith), rw e (omega arith))
-
--- and of any word
-whole : (w : ℤ) → SFits w64 w → let n = ofZ w64 w in (mag (sqlDay n) < 2 ^ 31) × (sqlDay n *ℤ pos (2 ^ 32) +ℤ pos (sqlTicks n) ≡ w)
-whole (pos n) f =
-    let q : n / 2 ^ 32 % 2 ^ 32 ≡ n / 2 ^ 32 = omega (arith, f .sfits) in
-    let d = ap (twos 32) q ∙ lower-half 32 (n / 2 ^ 32) (omega (arith, f .sfits)) in
-    rw d (omega (arith, f .sfits), ap pos (omega arith))
-whole (negsuc a) f =
-    let n = 2 ^ 64 - suc a in
-    let h = n / 2 ^ 32 in
-    let q : h % 2 ^ 32 ≡ h = omega arith in
-    let d = ap (twos 32) q ∙ upper-half 32 h (omega (arith, f .sfits)) (omega arith) in
-    rw d (omega (arith, f .sfits), below-zero (2 ^ 32 - 1 - h) (2 ^ 32) (n % 2 ^ 32) (omega arith) ∙ ap negsuc (omega (arith, f .sfits)))
-
--- a day that 32 signed bits hold
-day-held : (d : ℤ) (k : ℕ) → mag d < 2 ^ 31 → dayWord d k ≡ gives (d *ℤ pos (2 ^ 32) +ℤ pos k)
-day-held (pos a) k h = rw (lt-ltb a (2 ^ 31) h)
-day-held (negsuc a) k h = rw (le-leb a 2147483647 (omega arith))
-
-small-day : (d : ℤ) → leZ (negℤ (pos (2 ^ 31))) d && ltZ d (pos (2 ^ 31)) ≡ true → mag d < 2 ^ 31
-small-day (pos a) e = ltb-true a (2 ^ 31) e
-small-day (negsuc a) e = omega (arith, leb-true a 2147483647 (and-left (leb a 2147483647) true e))
+use Rattle.loss.specs.Loss.{Decodes, Nearest}
+use Rattle.instant.specs.Instants.{at}
 
 -- ---- the word of an instant
 
@@ -202,7 +121,7 @@ module _ (a b r k : ℕ) (low : 10000000 * k ≤ 3 * r + 5000000) (high : 3 * r 
 
 abbrev sqlInstant : ℕ → Instant
 sqlInstant n =
-    record { seconds = sqlDay n *ℤ pos 86400 +ℤ pos (sqlTicks n / 300) -ℤ pos 2208988800; nanos = sqlTicks n % 300 * 10000000 / 3 }
+    at (sqlDay n *ℤ pos 86400 +ℤ pos (sqlTicks n / 300) -ℤ pos 2208988800) (sqlTicks n % 300 * 10000000 / 3)
 
 said-by : (n : ℕ) (t : Instant) → sqlDecode n ≡ gives t → (sqlTicks n < 25920000) × (t ≡ sqlInstant n)
 said-by n t e = go (decLt (sqlTicks n) 25920000)

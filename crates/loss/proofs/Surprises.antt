@@ -3,16 +3,16 @@
 use mathlib.Core.Path.{_≡_, refl, sym, ap, _∙_}
 use mathlib.Core.Bool.{true}
 use lib.IntN.{pos}
-use Rattle.lengths.specs.Lengths.{leap, daysOfMonths}
+use Rattle.month_lengths.specs.Lengths.{leap, daysOfMonths}
 use Rattle.gregorian.specs.Gregorian.{daysTo, dayNumber}
 use Rattle.gregorian.proofs.YearSums.{closed-is}
-use Rattle.civil.specs.Times.{good, secondsOf, fieldsAt}
-use Rattle.civil.specs.declared.times.Civil.{Civil}
-use Rattle.civil.proofs.Promises.{fields-of-their-seconds}
-use Rattle.places.specs.Orders.{ordered}
-use Rattle.fields.specs.Reading.{valueOf, fieldsIn}
+use Rattle.day_time.specs.Times.{good, secondsOf, fieldsAt}
+use Rattle.day_time.specs.declared.times.Civil.{Civil}
+use Rattle.day_time.proofs.Promises.{fields-of-their-seconds}
+use Rattle.byte_orders.specs.Orders.{ordered}
+use Rattle.unpacking.specs.Reading.{valueOf, fieldsIn}
 use Rattle.counts.specs.Sql.{sqlWord, sqlEncode}
-use Rattle.registry.specs.Words.{fieldsDecode, lessZone, gsmDecode, fieldsEncode, ruleFor}
+use Rattle.registry.specs.Words.{localDecode, lessZone, fieldsDecode, fieldsEncode, ruleFor}
 use Rattle.loss.specs.Surprises.{ZoneLeavesTheYears, RollAtTheEnds}
 
 -- 21:30 on the last day of 1999
@@ -31,7 +31,7 @@ its-fields : fieldsAt (pos 946675800) ≡ lastEvening
 its-fields = ap fieldsAt (sym its-seconds) ∙ fields-of-their-seconds lastEvening it-is-good .1
 
 pub zone-leaves-the-years : ZoneLeavesTheYears
-unfolding leap daysOfMonths daysTo dayNumber secondsOf ordered valueOf fieldsIn fieldsDecode lessZone gsmDecode fieldsEncode ruleFor
+unfolding leap daysOfMonths daysTo dayNumber secondsOf ordered valueOf fieldsIn localDecode lessZone fieldsDecode fieldsEncode ruleFor
 zone-leaves-the-years = (simp closed-is, rw its-fields)
 
 pub roll-at-the-ends : RollAtTheEnds

@@ -7,13 +7,14 @@ use native.Mathlib.Nat.{one-le-pow}
 use native.Mathlib.Omega.{arith}
 use lib.IntN.{pos}
 use borrow.Author.Tests.{le-ltb}
-use Rattle.civil.specs.declared.times.Civil.{Civil}
-use Rattle.fields.specs.Reading.{base, semi, stored, valueOf, fieldsIn}
-use Rattle.fields.specs.Parts.{InWord}
-use Rattle.fields.specs.declared.layouts.Field.{Field}
-use Rattle.fields.specs.declared.layouts.Layout.{Layout}
-use Rattle.fields.specs.declared.layouts.Digits.{Digits}
-use Rattle.fields.specs.declared.layouts.Digits.the-variants.{Bits, Pairs, SwappedPairs, SemiOctets}
+use Rattle.day_time.specs.declared.times.Civil.{Civil}
+use Rattle.layouts.specs.Layouts.{base}
+use Rattle.unpacking.specs.Reading.{semi, stored, valueOf, fieldsIn}
+use Rattle.unpacking.specs.Parts.{InWord}
+use Rattle.layouts.specs.declared.layouts.Field.{Field}
+use Rattle.layouts.specs.declared.layouts.Layout.{Layout}
+use Rattle.layouts.specs.declared.layouts.Digits.{Digits}
+use Rattle.layouts.specs.declared.layouts.Digits.the-variants.{Bits, Pairs, SwappedPairs, SemiOctets}
 use Rattle.packing.specs.Writing.{steps, numeral, packed}
 use Rattle.packing.specs.Parts.{TwoDigits, Fitting, Holds, Packing}
 use Rattle.packing.proofs.Packing.{div-mono, packs}

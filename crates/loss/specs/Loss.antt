@@ -12,7 +12,7 @@ use mir.Val.{SFits, ofZ}
 use Rattle.refusal.specs.Answers.{gives}
 use Rattle.instant.specs.Instants.{isBefore}
 use Rattle.instant.specs.declared.instants.Instant.{Instant}
-use Rattle.counts.specs.Sql.{sqlDay, sqlTicks}
+use Rattle.counts.specs.Sql.{exactTicks, distance}
 use Rattle.registry.specs.Words.{decodeFor, encodeFor}
 
 -- what the word w of layout n says
@@ -42,18 +42,6 @@ abbrev pub LatestOfAll : Type 0
 LatestOfAll = (n : ℕ) (t u : Instant) (w : ℤ) → n ≤ 15 → encodeFor n t ≡ gives w → says n w u → Latest (says n) t u
 
 -- ---- 3. in 16 no acceptable word is nearer, in exact time, and of two equally near the later is taken
-
--- the exact time of a word: ticks of 1/300 s from 1900-01-01 on
-abbrev pub exactTicks : ℤ → ℤ
-exactTicks w = sqlDay (ofZ w64 w) *ℤ pos 25920000 +ℤ pos (sqlTicks (ofZ w64 w))
-
--- three times the nanoseconds of an instant from 1900-01-01 on; a tick is 10,000,000 of these thirds
-abbrev pub thirds : Instant → ℤ
-thirds t = ((t .seconds +ℤ pos 2208988800) *ℤ pos 1000000000 +ℤ pos (t .nanos)) *ℤ pos 3
-
--- how far a word is from an instant, in thirds of a nanosecond: 1/600 s are 5,000,000
-abbrev pub distance : Instant → ℤ → ℕ
-distance t w = natAbs (thirds t -ℤ exactTicks w *ℤ pos 10000000)
 
 -- w is at most half a tick away, no word that is accepted is nearer, and none that is as near is later
 abbrev pub Nearest : Instant → ℤ → Type 0

@@ -1,13 +1,9 @@
 -- What may surprise a reader of specs/Loss.antt. Each is proved in proofs/Surprises.antt.
 use mathlib.Core.Path.{_≡_}
-use Prim.Native.Nat.{ℕ}
-use lib.IntN.{ℤ, pos, negℤ}
+use lib.IntN.{pos, negℤ}
 use Rattle.refusal.specs.Answers.{gives, refused}
-use Rattle.instant.specs.declared.instants.Instant.{Instant}
+use Rattle.instant.specs.Instants.{at}
 use Rattle.registry.specs.Words.{decodeFor, encodeFor}
-
-abbrev pub at : ℤ → ℕ → Instant
-at s n = record { seconds = s; nanos = n }
 
 -- a Gsm word can say an instant that the Gsm encoder refuses: 00 10 10 00 00 00 01 is 2000-01-01 00:00:00 at ten quarter
 -- hours east, which is 21:30 on the last day of 1999 in UTC

@@ -12,19 +12,18 @@ use mir.Val.{ofZ}
 use borrow.Author.Tests.{lt-leb, leb-true}
 use Rattle.refusal.specs.Answers.{Answer, gives, refused}
 use Rattle.signed.proofs.Tests.{and-false, and-left, and-right}
-use Rattle.civil.specs.Promises.{Ranged}
-use Rattle.civil.specs.declared.times.Civil.{Civil}
-use Rattle.places.specs.Orders.{reversed, yearSwapped, ordered}
-use Rattle.places.specs.declared.orders.Order.{Order}
-use Rattle.places.specs.declared.orders.Order.the-variants.{Straight, Reversed, YearSwapped}
-use Rattle.fields.specs.Reading.{base}
-use Rattle.fields.specs.Parts.{pairs}
-use Rattle.fields.specs.declared.layouts.Field.{Field}
-use Rattle.fields.specs.declared.layouts.Layout.{Layout}
-use Rattle.fields.specs.declared.layouts.Digits.{Digits}
-use Rattle.fields.specs.declared.layouts.Digits.the-variants.{Bits, Pairs, SwappedPairs, SemiOctets}
+use Rattle.day_time.specs.Promises.{Ranged}
+use Rattle.day_time.specs.declared.times.Civil.{Civil}
+use Rattle.byte_orders.specs.Orders.{reversed, yearSwapped, ordered}
+use Rattle.byte_orders.specs.declared.Order.the-variants.{Straight, Reversed, YearSwapped}
+use Rattle.byte_orders.proofs.Promises.{stays-below}
+use Rattle.layouts.specs.Layouts.{base, pairs}
+use Rattle.layouts.specs.declared.layouts.Field.{Field}
+use Rattle.layouts.specs.declared.layouts.Layout.{Layout}
+use Rattle.layouts.specs.declared.layouts.Digits.{Digits}
+use Rattle.layouts.specs.declared.layouts.Digits.the-variants.{Bits, Pairs, SwappedPairs, SemiOctets}
 use Rattle.packing.specs.Writing.{steps, numeral, placed, packed, writes, writeFields}
-use Rattle.packing.specs.Parts.{Fitting, largest, TwoDigits, Holds, top, Writable, Ready, Packing, inYears, writeBits, reordered, writeBy, asWord, InWord}
+use Rattle.packing.specs.Parts.{Fitting, largest, TwoDigits, Holds, top, Writable, Ready, Packing, inYears, writeBits, reordered, writeBy, asWord, Below63}
 
 pub div-mono : {a b k : ℕ} → 0 < k → a ≤ b → a / k ≤ b / k
 div-mono {a} {b} {k} p h = le-div-iff-mul-le p .1 (le-trans (div-mul-le-self a k) h)
@@ -134,14 +133,6 @@ own l y c p = record {
 pub packs : {d : Digits} {l : Layout} {y : ℕ} {c : Civil} → Packing d l y c → Packs d l y c
 packs {d} {l} {y} {c} p = subst (λ e. Packs e l y c) (p .digits) (own l y c (limits p))
 
--- ---- the order of bytes keeps a word below 2^63
-
-pub ordered-small : (o : Order) (p : ℕ) → p < 2 ^ 63 → ordered o p < 2 ^ 63
-unfolding ordered reversed yearSwapped
-ordered-small Straight p h = h
-ordered-small Reversed p h = let k : p / 2 ^ 32 < 2 ^ 31 = omega arith in omega arith
-ordered-small YearSwapped p h = let k : p / 2 ^ 56 < 2 ^ 7 = omega arith in omega arith
-
 -- ---- the test of the year, on its 64 bits
 
 pub years-agree : (l : Layout) (y : ℤ) → mag y < 10000 → l .last ≤ 9999 → inYears l (ofZ w64 y) ≡ writes l y
@@ -200,7 +191,7 @@ word-by : (b : Bool) (p : ℕ) (f : ℕ → ℕ) → asWord (reordered f (cond b
 word-by true p f = refl
 word-by false p f = refl
 
-in-word-by : (b : Bool) (p : ℕ) (f : ℕ → ℕ) → (b ≡ true → f p < 2 ^ 63) → InWord (reordered f (cond b (gives p) (refused 7)))
+in-word-by : (b : Bool) (p : ℕ) (f : ℕ → ℕ) → (b ≡ true → f p < 2 ^ 63) → Below63 (reordered f (cond b (gives p) (refused 7)))
 in-word-by true p f h = h refl
 in-word-by false p f h = omega arith
 
@@ -209,13 +200,13 @@ module _ (l : Layout) (c : Civil) where
   unfolding writeBits
   its-word = word-by (writes l (c .year)) (packed l (natAbs (c .year)) c) (ordered (l .order))
 
-  pub in-word : Writable l → Ranged c → InWord (writeBy l c)
+  pub in-word : Writable l → Ranged c → Below63 (writeBy l c)
   unfolding writeBits
   in-word w r = in-word-by (writes l (c .year)) (packed l (natAbs (c .year)) c) (ordered (l .order)) (λ e.
       let h : inYears l (ofZ w64 (c .year)) ≡ true = years-agree l (c .year) (r .year) (w .last) ∙ e in
       let p = packing l c w r (ofZ w64 (c .year)) refl h refl in
       let a = size (c .year) (l .last) (r .year) (w .last) (p .last) in
-      ordered-small (l .order) _ (rw a (packed-small l (ofZ w64 (c .year)) c p)))
+      stays-below (l .order) _ (rw a (packed-small l (ofZ w64 (c .year)) c p)))
 
 -- ---- pairs
 

@@ -1,9 +1,9 @@
 -- How the packed bits are read: a value, or a number of the list of refusals.
 use Prim.Native.Nat.{ℕ}
-use Rattle.refusal.specs.Answers.{Answer, gives, refused}
+use Rattle.refusal.specs.Answers.{Answer, gives, refused, refusedBy}
 use Rattle.packing.specs.declared.write.Packed.{Packed}
 use Rattle.packing.specs.declared.write.Packed.the-variants as packed
 
 abbrev pub readPacked : Packed → Answer ℕ
-readPacked (packed.Bits p) = gives p
-readPacked (packed.Refused why) = refused (why .number)
+readPacked (packed.Gives p) = gives p
+readPacked (packed.Refused why) = refusedBy why

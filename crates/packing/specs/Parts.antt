@@ -5,14 +5,14 @@ use Prim.Native.Nat.{ℕ, _+_, _-_, _*_, _/_, _^_, _≤_, _<_}
 use lib.Dec.{leb}
 use lib.IntN.{ℤ, pos, natAbs}
 use Rattle.refusal.specs.Answers.{Answer, gives, refused}
-use Rattle.civil.specs.Promises.{Ranged}
-use Rattle.civil.specs.declared.times.Civil as civil
-use Rattle.places.specs.Orders.{ordered}
-use Rattle.fields.specs.Reading.{base}
-use Rattle.fields.specs.declared.layouts.Field.{Field}
-use Rattle.fields.specs.declared.layouts.Layout.{Layout}
-use Rattle.fields.specs.declared.layouts.Digits.{Digits}
-use Rattle.fields.specs.declared.layouts.Digits.the-variants.{Bits, Pairs, SwappedPairs, SemiOctets}
+use Rattle.day_time.specs.Promises.{Ranged}
+use Rattle.day_time.specs.declared.times.Civil.{Civil}
+use Rattle.byte_orders.specs.Orders.{ordered}
+use Rattle.layouts.specs.Layouts.{base}
+use Rattle.layouts.specs.declared.layouts.Field.{Field}
+use Rattle.layouts.specs.declared.layouts.Layout.{Layout}
+use Rattle.layouts.specs.declared.layouts.Digits.{Digits}
+use Rattle.layouts.specs.declared.layouts.Digits.the-variants.{Bits, Pairs, SwappedPairs, SemiOctets}
 use Rattle.packing.specs.Writing.{numeral, packed, writes}
 
 -- a year that the layout writes, by its 64 bits
@@ -20,14 +20,14 @@ abbrev pub inYears : Layout → ℕ → Bool
 inYears l y = leb (l .year .offset) y && leb y (l .last)
 
 -- the bits of a civil time in order, and in the order of the word's bytes
-unfoldable pub writeBits : Layout → civil.Civil → Answer ℕ
+unfoldable pub writeBits : Layout → Civil → Answer ℕ
 writeBits l c = cond (writes l (c .year)) (gives (packed l (natAbs (c .year)) c)) (refused 7)
 
 abbrev pub reordered : (ℕ → ℕ) → Answer ℕ → Answer ℕ
 reordered order (gives p) = gives (order p)
 reordered order (refused n) = refused n
 
-abbrev pub writeBy : Layout → civil.Civil → Answer ℕ
+abbrev pub writeBy : Layout → Civil → Answer ℕ
 writeBy l c = reordered (ordered (l .order)) (writeBits l c)
 
 -- a number that a field holds
@@ -83,18 +83,19 @@ pub record Ready (d : Digits) (f : Field) (v : ℕ) : Type 0 where
   pub fits : Fitting d f (numeral d f v)
 
 -- and what writing a year and civil fields asks
-pub record Packing (d : Digits) (l : Layout) (y : ℕ) (c : civil.Civil) : Type 0 where
+pub record Packing (d : Digits) (l : Layout) (y : ℕ) (c : Civil) : Type 0 where
   pub digits : l .digits ≡ d
   pub writable : Writable l
   pub ranged : Ranged c
   pub first : l .year .offset ≤ y
   pub last : y ≤ l .last
 
--- bits as a word, where they are below 2^63
+-- bits as a word
 abbrev pub asWord : Answer ℕ → Answer ℤ
 asWord (gives p) = gives (pos p)
 asWord (refused n) = refused n
 
-abbrev pub InWord : Answer ℕ → Type 0
-InWord (gives p) = p < 2 ^ 63
-InWord (refused n) = 0 ≤ n
+-- bits, where there are some, are below 2^63
+abbrev pub Below63 : Answer ℕ → Type 0
+Below63 (gives p) = p < 2 ^ 63
+Below63 (refused n) = 0 ≤ n

@@ -4,5 +4,4 @@
 mod words;
 mod write;
 
-pub use words::Shape;
 pub use words::word_of;

@@ -1,60 +1,53 @@
 // The word of some seconds, by the layout.
 ghost use mathlib.Core.Path.{_≡_};
 ghost use Rattle.instant.specs.Answers.{readEncoded};
-ghost use Rattle.civil.specs.Answers.{fieldsFor};
-ghost use Rattle.civil.specs.Promises.{Ranged};
-ghost use Rattle.places.specs.Orders.{reversed, yearSwapped};
-ghost use Rattle.fields.specs.Layouts.{layoutFor};
-ghost use Rattle.packing.specs.Writing.{layoutIn, writeFields};
+ghost use Rattle.day_time.specs.Answers.{fieldsFor};
+ghost use Rattle.day_time.specs.Promises.{Ranged};
+ghost use Rattle.byte_orders.specs.Orders.{reversed, yearSwapped};
+ghost use Rattle.layouts.specs.Layouts.{layoutFor};
+ghost use Rattle.packing.specs.Writing.{writeFields};
 ghost use Rattle.packing.specs.Answers.{readPacked};
-ghost use Rattle.packing.specs.Parts.{writeBy, reordered, asWord, InWord};
+ghost use Rattle.packing.specs.Parts.{writeBy, reordered, asWord, Below63};
 use crate::write::Packed;
 use crate::write::write_bits;
 use crate::write::write_pairs;
 use crate::write::write_semi_octets;
-use civil::Civil;
-use civil::Fields;
+use byte_orders::reverse;
+use byte_orders::swap_year;
 use civil::fields_of;
-use fields::BIT_DATE;
-use fields::BIT_DEC;
-use fields::DTTM;
-use fields::DVR;
-use fields::FAT_DOS;
-use fields::GSM;
-use fields::Kind;
-use fields::LOG_TIME;
-use fields::MOTO;
-use fields::NS40;
-use fields::NS40_LE;
-use fields::SYMANTEC;
+use day_time::Civil;
+use day_time::Fields;
 use instant::Encoded;
-use places::reverse;
-use places::swap_year;
-use refusal::Refusal;
-
-// The layouts 1 to 14: those that have civil fields and nothing else, and Gsm, which is written with zone 0.
-pub enum Shape {
-    Civil(Kind),
-    Gsm,
-}
+use layouts::BIT_DATE;
+use layouts::BIT_DEC;
+use layouts::DTTM;
+use layouts::DVR;
+use layouts::FAT_DOS;
+use layouts::GSM;
+use layouts::Kind;
+use layouts::LOG_TIME;
+use layouts::MOTO;
+use layouts::NS40;
+use layouts::NS40_LE;
+use layouts::SYMANTEC;
 
 // Packed bits in another order of bytes.
 fn reverse_packed(packed: Packed) -> Packed
     ensures { λ r. ⌜ readPacked r ≡ reordered reversed (readPacked packed) ⌝ }
 {
-    let Packed::Bits(p) = packed else {
+    let Packed::Gives(p) = packed else {
         return packed;
     };
-    Packed::Bits(reverse(p))
+    Packed::Gives(reverse(p))
 }
 
 fn swap_packed_year(packed: Packed) -> Packed
     ensures { λ r. ⌜ readPacked r ≡ reordered yearSwapped (readPacked packed) ⌝ }
 {
-    let Packed::Bits(p) = packed else {
+    let Packed::Gives(p) = packed else {
         return packed;
     };
-    Packed::Bits(swap_year(p))
+    Packed::Gives(swap_year(p))
 }
 
 // The bits of a civil time by the layout of a kind. With a constant description in each arm, the machine's code has its
@@ -77,43 +70,31 @@ fn write_kind(kind: Kind, c: Civil) -> Packed
         Kind::Ns40Le => swap_packed_year(write_bits(NS40_LE, c)),
         Kind::LogTime => write_bits(LOG_TIME, c),
         Kind::SemiOctet => write_pairs(true, c),
-    }
-}
-
-// The same by a layout that has fields.
-fn write_shape(shape: Shape, c: Civil) -> Packed
-    requires { ⌜ Ranged c ⌝ }
-    ensures { λ r. ⌜ readPacked r ≡ writeBy (layoutIn shape) c ⌝ }
-{
-    match shape {
-        Shape::Civil(kind) => write_kind(kind, c),
-        Shape::Gsm => write_semi_octets(GSM, c),
+        Kind::Gsm => write_semi_octets(GSM, c),
     }
 }
 
 // The word of packed bits.
 fn word_in(packed: Packed) -> Encoded
-    requires { ⌜ InWord (readPacked packed) ⌝ }
+    requires { ⌜ Below63 (readPacked packed) ⌝ }
     ensures { λ r. ⌜ readEncoded r ≡ asWord (readPacked packed) ⌝ }
 {
     match packed {
-        Packed::Bits(p) => {
+        Packed::Gives(p) => {
             let word = p as i64;
-            Encoded::Word(word)
+            Encoded::Gives(word)
         }
         Packed::Refused(why) => Encoded::Refused(why),
     }
 }
 
-// The word of some seconds by a layout that has fields.
-pub fn word_of(shape: Shape, seconds: i64) -> Encoded
-    ensures { λ r. ⌜ readEncoded r ≡ writeFields (layoutIn shape) (fieldsFor seconds) ⌝ }
+// The word of some seconds by the layout of a kind. Gsm is written with zone 0.
+pub fn word_of(kind: Kind, seconds: i64) -> Encoded
+    ensures { λ r. ⌜ readEncoded r ≡ writeFields (layoutFor kind) (fieldsFor seconds) ⌝ }
 {
     let found = fields_of(seconds);
-    let Fields::At(c) = found else {
-        return Encoded::Refused(Refusal {
-            number: Refusal::WINDOW,
-        });
+    let Fields::Gives(c) = found else {
+        return Encoded::Refused(found.refusal());
     };
-    word_in(write_shape(shape, c))
+    word_in(write_kind(kind, c))
 }

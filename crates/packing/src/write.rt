@@ -1,23 +1,23 @@
 // Writing civil fields into a word's bits, by a description.
 ghost use mathlib.Core.Path.{_≡_};
 ghost use Prim.Native.Nat.{_+_, _*_, _^_, _≤_, _<_};
-ghost use Rattle.civil.specs.Promises.{Ranged};
-ghost use Rattle.fields.specs.Parts.{pairs, pairLayout};
+ghost use Rattle.day_time.specs.Promises.{Ranged};
+ghost use Rattle.layouts.specs.Layouts.{pairs, pairLayout};
 ghost use Rattle.packing.specs.Writing.{steps, placed, packed};
 ghost use Rattle.packing.specs.Answers.{readPacked};
 ghost use Rattle.packing.specs.Parts.{Ready, Packing, Writable, inYears, writeBits};
-use civil::Civil;
-use fields::Digits;
-use fields::Field;
-use fields::Layout;
-use fields::pair_layout;
-use places::hundreds;
+use day_time::Civil;
+use layouts::Digits;
+use layouts::Field;
+use layouts::Layout;
+use layouts::hundreds;
+use layouts::pair_layout;
 use refusal::Refusal;
 use signed::to_bits;
 
 // The bits of a civil time, or why it has none.
 pub enum Packed {
-    Bits(u64),
+    Gives(u64),
     Refused(Refusal),
 }
 
@@ -121,11 +121,9 @@ pub fn write_bits(l: Layout, c: Civil) -> Packed
 {
     let y = to_bits(c.year);
     if writes_year(l, y) {
-        return Packed::Bits(pack_bits(l, y, c));
+        return Packed::Gives(pack_bits(l, y, c));
     }
-    Packed::Refused(Refusal {
-        number: Refusal::YEAR,
-    })
+    Packed::Refused(Refusal::YEAR)
 }
 
 pub fn write_pairs(swapped: bool, c: Civil) -> Packed
@@ -135,11 +133,9 @@ pub fn write_pairs(swapped: bool, c: Civil) -> Packed
     let l = pair_layout(swapped);
     let y = to_bits(c.year);
     if writes_year(l, y) {
-        return Packed::Bits(pack_pairs(l, swapped, y, c));
+        return Packed::Gives(pack_pairs(l, swapped, y, c));
     }
-    Packed::Refused(Refusal {
-        number: Refusal::YEAR,
-    })
+    Packed::Refused(Refusal::YEAR)
 }
 
 pub fn write_semi_octets(l: Layout, c: Civil) -> Packed
@@ -149,9 +145,7 @@ pub fn write_semi_octets(l: Layout, c: Civil) -> Packed
 {
     let y = to_bits(c.year);
     if writes_year(l, y) {
-        return Packed::Bits(pack_semi_octets(l, y, c));
+        return Packed::Gives(pack_semi_octets(l, y, c));
     }
-    Packed::Refused(Refusal {
-        number: Refusal::YEAR,
-    })
+    Packed::Refused(Refusal::YEAR)
 }

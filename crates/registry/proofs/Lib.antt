@@ -1,6 +1,6 @@
 pub mod Instants
 pub mod Zones
 pub mod RuleNumbers
-pub mod RuleTags
+pub mod Refusals
 pub mod Stamps
-pub mod Promises
+pub mod OneAnswer

@@ -2,4 +2,3 @@ pub mod Words
 pub mod Answers
 pub mod Stamps
 pub mod Promises
-pub mod Parts

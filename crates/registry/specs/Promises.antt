@@ -1,33 +1,66 @@
--- What holds of the definitions. Each is proved in proofs/Promises.antt.
+-- What holds of the definitions. Each is proved in proofs/RuleNumbers, Refusals or OneAnswer.
 use mathlib.Core.Path.{_≡_}
-use mathlib.Core.Logic.{_↔_}
-use Prim.Native.Nat.{ℕ, _+_, _*_, _/_, _^_, _≤_, _<_}
-use lib.IntN.{negsuc}
-use mir.Syntax.{w64}
-use mir.Val.{SFits, ofZ}
-use Rattle.refusal.specs.Answers.{Answer}
-use Rattle.places.specs.Orders.{reversed, yearSwapped}
-use Rattle.counts.specs.Sql.{nearestTick}
+use mathlib.Core.Logic.{_⊎_}
+use Prim.Native.Nat.{ℕ, _<_}
+use Rattle.refusal.specs.Answers.{Answer, gives, refused}
+use Rattle.refusal.specs.Ranges.{RefusedWithin}
+use Rattle.instant.specs.declared.instants.Instant.{Instant}
+use Rattle.layouts.specs.declared.kinds.Kind.{Kind}
+use Rattle.layouts.specs.declared.kinds.Kind.the-variants.{FatDos, ExFat, Dttm, BitDate, BitDec, Bcd, Moto, Symantec, Dvr, Ns40, Ns40Le, LogTime, SemiOctet, Gsm}
+use Rattle.registry.specs.Words.{ruleFor, decodeBy, encodeBy}
 use Rattle.registry.specs.Answers.{readPicked}
 use Rattle.registry.specs.declared.rules.Rule.{Rule}
+use Rattle.registry.specs.declared.rules.Rule.the-variants.{Civil, NokiaLe, SqlServer}
 use Rattle.registry.specs.declared.rules.Picked.{Picked}
 
--- where a bound of a description folds two rules of the document's range column into one: the year of 5 and of 10 is at
--- most 32,767 just where the word is below 2^35 and 2^55; bytes in another order keep a word within 32 or 56 bits; and a
--- negative word is above every bound
-abbrev pub Ranges : Type 0
-Ranges =
-    ((p : ℕ) → (p / 2 ^ 20 ≤ 32767) ↔ (p < 2 ^ 35))
-    × ((p : ℕ) → (p / 2 ^ 40 ≤ 32767) ↔ (p < 2 ^ 55))
-    × ((p : ℕ) → (reversed p < 2 ^ 32) ↔ (p < 2 ^ 32))
-    × ((p : ℕ) → (yearSwapped p < 2 ^ 56) ↔ (p < 2 ^ 56))
-    × ((n : ℕ) → SFits w64 (negsuc n) → 2 ^ 63 ≤ ofZ w64 (negsuc n))
+-- ---- the layout number
 
--- with r nanoseconds in the day and t ticks, 3r and 10^7 t differ by at most 5 * 10^6
-abbrev pub NearTick : Type 0
-NearTick = (r : ℕ) → (3 * r ≤ 10000000 * nearestTick r + 5000000) × (10000000 * nearestTick r ≤ 3 * r + 5000000)
+-- the number of each rule
+abbrev pub kindNumber : Kind → ℕ
+kindNumber FatDos = 1
+kindNumber ExFat = 2
+kindNumber Dttm = 3
+kindNumber BitDate = 4
+kindNumber BitDec = 5
+kindNumber Bcd = 6
+kindNumber Moto = 7
+kindNumber Symantec = 8
+kindNumber Dvr = 9
+kindNumber Ns40 = 10
+kindNumber Ns40Le = 11
+kindNumber LogTime = 12
+kindNumber SemiOctet = 13
+kindNumber Gsm = 14
 
--- one answer: whatever the definition says, all that the contract of `pick` allows as its reading is equal. The other calls
--- answer what `instant` has, and so does its promise
+abbrev pub ruleNumber : Rule → ℕ
+ruleNumber (Civil k) = kindNumber k
+ruleNumber NokiaLe = 15
+ruleNumber SqlServer = 16
+
+-- what a number may pick: the rule that has it, or nothing, where it is outside 1 to 16, under refusal 1
+abbrev pub PickedBy : ℕ → Answer Rule → Type 0
+PickedBy n (gives r) = n ≡ ruleNumber r
+PickedBy n (refused k) = (k ≡ 1) × ((n ≡ 0) ⊎ (16 < n))
+
+abbrev pub EveryNumber : Type 0
+EveryNumber = (n : ℕ) → PickedBy n (ruleFor n)
+
+-- ---- which refusals there are
+
+-- a decoder refuses under 2 to 5, and an encoder under 6 to 9
+abbrev pub DecoderRefusals : Type 0
+DecoderRefusals = (r : Rule) (w : ℕ) → RefusedWithin 2 5 (decodeBy r w)
+
+abbrev pub EncoderRefusals : Type 0
+EncoderRefusals = (r : Rule) (t : Instant) → RefusedWithin 6 9 (encodeBy r t)
+
+-- nanoseconds above 999,999,999 are refused under 9, whatever else is wrong
+abbrev pub NanosFirst : Type 0
+NanosFirst = (r : Rule) (t : Instant) → 999999999 < t .nanos → encodeBy r t ≡ refused 9
+
+-- ---- one answer
+
+-- whatever the definition says, all that the contract of `pick` allows as its reading is equal. The other calls answer what
+-- `instant` has, and so does its promise
 abbrev pub OneAnswer : Type 0
 OneAnswer = (x : Answer Rule) (a b : Picked) → readPicked a ≡ x → readPicked b ≡ x → a ≡ b

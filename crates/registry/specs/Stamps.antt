@@ -6,31 +6,29 @@ use lib.IntN.{ℤ, pos, negℤ}
 use mir.Syntax.{w64}
 use mir.Val.{ofZ}
 use Rattle.refusal.specs.Answers.{Answer, gives, refused}
+use Rattle.instant.specs.Instants.{at}
 use Rattle.instant.specs.declared.instants.Instant.{Instant}
 use Rattle.registry.specs.Words.{decodeFor, encodeFor}
 
 -- a word of a layout to decode, or an instant to encode
-pub data Question : Type 0 where
-  decode : ℕ → ℤ → Question
-  encode : ℕ → Instant → Question
+pub data Trial : Type 0 where
+  decode : ℕ → ℤ → Trial
+  encode : ℕ → Instant → Trial
 
 pub data Reply : Type 0 where
   instant : Answer Instant → Reply
   word : Answer ℤ → Reply
 
-abbrev pub replyTo : Question → Reply
+abbrev pub replyTo : Trial → Reply
 replyTo (decode n w) = instant (decodeFor n (ofZ w64 w))
 replyTo (encode n t) = word (encodeFor n t)
 
-abbrev pub at : ℤ → ℕ → Instant
-at s n = record { seconds = s; nanos = n }
-
 pub record Stamp : Type 0 where
-  pub question : Question
+  pub trial : Trial
   pub reply : Reply
 
-abbrev pub stamp : Question → Reply → Stamp
-stamp q r = record { question = q; reply = r }
+abbrev pub stamp : Trial → Reply → Stamp
+stamp q r = record { trial = q; reply = r }
 
 abbrev pub stamps : List Stamp
 stamps =
@@ -50,6 +48,6 @@ stamps =
     ∷ stamp (encode 16 (at (negℤ (pos 2208902401)) 998333334)) (word (gives (pos 4294967296)))
     ∷ []
 
--- each question of the table has its reply
+-- each trial of the table has its reply
 abbrev pub Stamps : Type 0
-Stamps = map (λ s. replyTo (s .question)) stamps ≡ map (λ s. s .reply) stamps
+Stamps = map (λ s. replyTo (s .trial)) stamps ≡ map (λ s. s .reply) stamps

@@ -1,34 +1,34 @@
 -- What each of the sixteen words says, and the word of an instant, in the order of document 01. A word is its 64 bits.
-use mathlib.Core.Bool.{cond}
+use mathlib.Core.Bool.{Bool, true, false, cond}
 use Prim.Native.Nat.{ℕ, _+_, _*_, _/_, _%_, _^_}
-use lib.Dec.{eqb, ltb, leb}
+use lib.Dec.{eqb, leb}
 use lib.IntN.{ℤ, pos, negℤ, _-ℤ_}
 use Rattle.refusal.specs.Answers.{Answer, gives, refused}
-use Rattle.instant.specs.Answers.{withNanos}
+use Rattle.instant.specs.Instants.{at}
+use Rattle.instant.specs.Answers.{atNanos, withNanos}
 use Rattle.instant.specs.declared.instants.Instant.{Instant}
-use Rattle.civil.specs.Answers.{secondsFor, fieldsFor}
-use Rattle.places.specs.Orders.{ordered}
-use Rattle.fields.specs.Layouts.{gsm, layoutFor}
-use Rattle.fields.specs.Reading.{fieldsIn}
-use Rattle.fields.specs.declared.layouts.Layout.{Layout}
-use Rattle.fields.specs.declared.kinds.Kind.the-variants.{FatDos, ExFat, Dttm, BitDate, BitDec, Bcd, Moto, Symantec, Dvr, Ns40, Ns40Le, LogTime, SemiOctet}
+use Rattle.day_time.specs.Answers.{secondsFor, fieldsFor}
+use Rattle.day_time.specs.declared.times.Civil as civil
+use Rattle.layouts.specs.Layouts.{layoutFor}
+use Rattle.layouts.specs.declared.layouts.Layout.{Layout}
+use Rattle.layouts.specs.declared.kinds.Kind.the-variants.{FatDos, ExFat, Dttm, BitDate, BitDec, Bcd, Moto, Symantec, Dvr, Ns40, Ns40Le, LogTime, SemiOctet, Gsm}
+use Rattle.unpacking.specs.Reading.{readBy}
 use Rattle.packing.specs.Writing.{writeFields}
 use Rattle.counts.specs.Nokia.{nokiaDecode, nokiaEncode}
 use Rattle.counts.specs.Sql.{sqlDecode, sqlEncode}
 use Rattle.registry.specs.declared.rules.Rule.{Rule}
-use Rattle.registry.specs.declared.rules.Rule.the-variants.{Civil, Gsm, NokiaLe, SqlServer}
+use Rattle.registry.specs.declared.rules.Rule.the-variants.{Civil, NokiaLe, SqlServer}
 
 -- ---- decoding
 
--- a whole second
-abbrev pub atSecond : Answer ℤ → Answer Instant
-atSecond (gives s) = gives (record { seconds = s; nanos = 0 })
-atSecond (refused n) = refused n
+-- the seconds of fields, which may be refused
+abbrev pub secondsIn : Answer civil.Civil → Answer ℤ
+secondsIn (gives c) = secondsFor c
+secondsIn (refused n) = refused n
 
--- by civil fields: 2 for a word out of range, 3 for fields that are not good
-unfoldable pub fieldsDecode : Layout → ℕ → Answer Instant
-fieldsDecode l w =
-    cond (ltb (ordered (l .order) w) (l .words)) (atSecond (secondsFor (fieldsIn l (ordered (l .order) w)))) (refused 2)
+-- the instant of a word's fields: 2 for a word out of range, 3 for fields that are not good
+unfoldable pub localDecode : Layout → ℕ → Answer Instant
+localDecode l w = atNanos 0 (secondsIn (readBy l w))
 
 -- a zone byte's quarter hours, bits 0..2 tens and the high nibble units, as seconds; bit 3 is the sign
 abbrev pub zoneSize : ℕ → ℕ
@@ -39,31 +39,35 @@ zoneSeconds z = cond (eqb (z / 8 % 2) 0) (pos (zoneSize z)) (negℤ (pos (zoneSi
 
 -- an instant less a zone; 4 for units above 9
 unfoldable pub lessZone : ℕ → Instant → Answer Instant
-lessZone z t = cond (leb (z / 16) 9) (gives (record { seconds = t .seconds -ℤ zoneSeconds z; nanos = t .nanos })) (refused 4)
+lessZone z t = cond (leb (z / 16) 9) (gives (at (t .seconds -ℤ zoneSeconds z) (t .nanos))) (refused 4)
 
--- 14: the date is looked at before the zone, which is the low byte
-abbrev pub thenZone : ℕ → Answer Instant → Answer Instant
-thenZone z (gives t) = lessZone z t
-thenZone z (refused n) = refused n
+-- an instant in the zone z, where the layout has one, and as it is where not
+abbrev pub inZone : Bool → ℕ → Instant → Answer Instant
+inZone true z t = lessZone z t
+inZone false z t = gives t
 
-unfoldable pub gsmDecode : ℕ → Answer Instant
-gsmDecode w = thenZone (w % 2 ^ 8) (fieldsDecode gsm w)
+-- the date is looked at before the zone
+abbrev pub thenZone : Bool → ℕ → Answer Instant → Answer Instant
+thenZone zoned z (gives t) = inZone zoned z t
+thenZone zoned z (refused n) = refused n
+
+-- 1 to 14, by civil fields; the zone of 14 is the low byte
+unfoldable pub fieldsDecode : Layout → ℕ → Answer Instant
+fieldsDecode l w = thenZone (l .zoned) (w % 2 ^ 8) (localDecode l w)
 
 abbrev pub decodeBy : Rule → ℕ → Answer Instant
 decodeBy (Civil k) w = fieldsDecode (layoutFor k) w
-decodeBy Gsm w = gsmDecode w
 decodeBy NokiaLe w = nokiaDecode w
 decodeBy SqlServer w = sqlDecode w
 
 -- ---- encoding
 
--- by civil fields: 9, then 6 and 7
+-- 1 to 14, by civil fields: 9, then 6 and 7
 unfoldable pub fieldsEncode : Layout → Instant → Answer ℤ
 fieldsEncode l t = withNanos t (writeFields l (fieldsFor (t .seconds)))
 
 abbrev pub encodeBy : Rule → Instant → Answer ℤ
 encodeBy (Civil k) t = fieldsEncode (layoutFor k) t
-encodeBy Gsm t = fieldsEncode gsm t
 encodeBy NokiaLe t = nokiaEncode t
 encodeBy SqlServer t = sqlEncode t
 
@@ -84,7 +88,7 @@ ruleFor n =
     (cond (eqb n 11) (gives (Civil Ns40Le))
     (cond (eqb n 12) (gives (Civil LogTime))
     (cond (eqb n 13) (gives (Civil SemiOctet))
-    (cond (eqb n 14) (gives Gsm)
+    (cond (eqb n 14) (gives (Civil Gsm))
     (cond (eqb n 15) (gives NokiaLe)
     (cond (eqb n 16) (gives SqlServer)
     (refused 1))))))))))))))))

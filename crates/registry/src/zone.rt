@@ -1,41 +1,27 @@
-// Layout 14: civil fields and a zone.
+// A zone byte, which layout 14 has besides its fields.
 ghost use mathlib.Core.Path.{_≡_};
 ghost use Prim.Native.Nat.{_<_, _^_};
 ghost use lib.Signed.{mag};
 ghost use Rattle.instant.specs.Answers.{readDecoded};
-ghost use Rattle.fields.specs.Layouts.{gsm};
-ghost use Rattle.registry.specs.Words.{fieldsDecode, lessZone, gsmDecode};
+ghost use Rattle.registry.specs.Words.{lessZone};
 use instant::Decoded;
 use instant::Instant;
 use refusal::Refusal;
 
 // An instant less the offset of a zone byte: bit 3 is the sign, bits 0..2 are tens and the high nibble units of quarter
 // hours.
-fn less_zone(zone: u64, local: Instant) -> Decoded
+pub fn less_zone(zone: u64, local: Instant) -> Decoded
     requires { ⌜ (zone < 256) × (mag (local .seconds) < 2 ^ 39) ⌝ }
     ensures { λ r. ⌜ readDecoded r ≡ lessZone zone local ⌝ }
 {
     let units = zone / 16;
     if 9 < units {
-        return Decoded::Refused(Refusal {
-            number: Refusal::ZONE,
-        });
+        return Decoded::Refused(Refusal::ZONE);
     }
     let offset = ((zone % 8 * 10 + units) * 900) as i64;
     let seconds = local.seconds;
     if zone / 8 % 2 == 0 {
-        return Decoded::At(Instant::new(seconds - offset, local.nanos));
+        return Decoded::Gives(Instant::new(seconds - offset, local.nanos));
     }
-    Decoded::At(Instant::new(seconds + offset, local.nanos))
-}
-
-// What a Gsm word says, of the instant that its fields say: the date is looked at before the zone, which is the low byte.
-pub fn then_zone(bits: u64, local: Decoded) -> Decoded
-    requires { ⌜ readDecoded local ≡ fieldsDecode gsm bits ⌝ }
-    ensures { λ r. ⌜ readDecoded r ≡ gsmDecode bits ⌝ }
-{
-    let Decoded::At(t) = local else {
-        return local;
-    };
-    less_zone(bits % 256, t)
+    Decoded::Gives(Instant::new(seconds + offset, local.nanos))
 }

@@ -1,8 +1,8 @@
 // The text of an answer, without an LF. A function `say_..` puts all of it at the start of out and answers how many bytes that
 // are; a function `put_..` puts a part of it from index `at` on and answers the index behind it.
-use civil::Civil;
-use civil::Fields;
-use civil::Seconds;
+use day_time::Civil;
+use day_time::Fields;
+use day_time::Seconds;
 use decimal::text_of;
 use instant::Decoded;
 use instant::Encoded;
@@ -54,28 +54,28 @@ fn say_civil(out: &mut [u8], time: Civil) -> usize {
 
 pub fn say_seconds(out: &mut [u8], answer: Seconds) -> usize {
     match answer {
-        Seconds::At(seconds) => say_number(out, seconds),
+        Seconds::Gives(seconds) => say_number(out, seconds),
         Seconds::Refused(why) => say_refused(out, why),
     }
 }
 
 pub fn say_fields(out: &mut [u8], answer: Fields) -> usize {
     match answer {
-        Fields::At(time) => say_civil(out, time),
+        Fields::Gives(time) => say_civil(out, time),
         Fields::Refused(why) => say_refused(out, why),
     }
 }
 
 pub fn say_decoded(out: &mut [u8], answer: Decoded) -> usize {
     match answer {
-        Decoded::At(instant) => say_instant(out, instant),
+        Decoded::Gives(instant) => say_instant(out, instant),
         Decoded::Refused(why) => say_refused(out, why),
     }
 }
 
 pub fn say_encoded(out: &mut [u8], answer: Encoded) -> usize {
     match answer {
-        Encoded::Word(word) => say_number(out, word),
+        Encoded::Gives(word) => say_number(out, word),
         Encoded::Refused(why) => say_refused(out, why),
     }
 }

@@ -4,10 +4,10 @@ use crate::answers::say_decoded;
 use crate::hex::Hex;
 use crate::hex::bytes_in;
 use crate::hex::room;
+use byte_stamps::cp56time2a;
+use byte_stamps::oracle_date;
+use byte_stamps::udf;
 use check::same;
-use compose::cp56time2a;
-use compose::oracle_date;
-use compose::udf;
 use texts::first;
 
 fn answer_oracle(text: &[u8], out: &mut [u8]) -> usize {

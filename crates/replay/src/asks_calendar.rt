@@ -1,11 +1,11 @@
-// The calendar by both engines: `seconds` and `fields` ask `civil`, `walk-seconds` and `walk-fields` ask `walk`.
+// The calendar by both engines: `seconds` and `fields` ask `civil`, `walk-seconds` and `walk-fields` ask `year_walk`.
 use crate::answers::say_bad_line;
 use crate::answers::say_fields;
 use crate::answers::say_seconds;
 use crate::numbers::LARGEST;
 use crate::numbers::natural_in;
 use check::same;
-use civil::Civil;
+use day_time::Civil;
 use decimal::Number;
 use decimal::number_in;
 use texts::after_space;
@@ -58,7 +58,7 @@ fn answer_walk_seconds(text: &[u8], out: &mut [u8]) -> usize {
     let Time::Is(time) = found else {
         return say_bad_line(out);
     };
-    say_seconds(out, walk::seconds_of(time))
+    say_seconds(out, year_walk::seconds_of(time))
 }
 
 fn answer_fields(text: &[u8], out: &mut [u8]) -> usize {
@@ -74,7 +74,7 @@ fn answer_walk_fields(text: &[u8], out: &mut [u8]) -> usize {
     let Number::Is(seconds) = found else {
         return say_bad_line(out);
     };
-    say_fields(out, walk::fields_of(seconds))
+    say_fields(out, year_walk::fields_of(seconds))
 }
 
 // What stands behind a word of this topic, answered.

@@ -8,9 +8,9 @@ use crate::numbers::unsigned_in;
 use check::same;
 use decimal::Number;
 use decimal::number_in;
-use halves::filetime_hilo;
-use halves::unix_sec_nsec;
-use halves::vmsd;
+use number_stamps::filetime_hilo;
+use number_stamps::unix_sec_nsec;
+use number_stamps::vmsd;
 use texts::after_space;
 use texts::before_space;
 

@@ -6,11 +6,12 @@ use Prim.Native.Nat.{ℕ, zero, suc, _+_, _-_, _*_, _<_, _≤_, _^_}
 use native.Mathlib.Omega.{arith}
 use native.Mathlib.Decide.{decLt}
 use lib.Dec.{ltb, leb→le, le→leb}
-use lib.IntN.{ℤ, pos, negsuc, subℕ, natAbs, negℤ, _+ℤ_, _-ℤ_, _*ℤ_, pos-ne-negsuc}
+use lib.IntN.{ℤ, pos, negsuc, subℕ, natAbs, negℤ, _+ℤ_, _-ℤ_, _*ℤ_, pos-ne-negsuc, +ℤ-idr, +ℤ-negℤ-cancel}
 use lib.Signed.{mag, ltZ, _≤ℤ_}
 use mir.Syntax.{Width}
 use mir.Val.{SFits, hbits}
 use borrow.Author.Tests.{lt-ltb, le-ltb}
+use Rattle.signed.proofs.Tests.{test-ge}
 
 -- a - b, where b is at most a, and where it is more
 pub sub-ge : (a b : ℕ) → b ≤ a → subℕ a b ≡ pos (a - b)
@@ -156,3 +157,44 @@ raised-high k (negsuc n) {j} l p u =
 -- a difference raised by what was taken off
 pub raised-back : (k a : ℕ) → raised k (subℕ a k) ≡ a
 raised-back k a = ap natAbs (plus a k k ∙ across (a + k) k a 0 (omega arith) ∙ sub-ge a 0 (omega arith)) ∙ omega arith
+
+-- ---- every signed number is a difference
+
+pub record Difference (z : ℤ) : Type 0 where
+  pub more : ℕ
+  pub less : ℕ
+  pub is : z ≡ subℕ more less
+
+pub difference : (z : ℤ) → Difference z
+difference (pos n) = record { more = n; less = 0; is = sym (sub-ge n 0 (omega arith) ∙ ap pos (omega arith)) }
+difference (negsuc n) = record { more = 0; less = suc n; is = sym (sub-lt 0 (suc n) (omega arith) ∙ ap negsuc (omega arith)) }
+
+-- a difference times a number, less another, its size, and the order of two
+pub times : (a b k : ℕ) → subℕ a b *ℤ pos k ≡ subℕ (a * k) (b * k)
+times a b k = sym (+ℤ-idr (subℕ a b *ℤ pos k)) ∙ times-plus a b k 0 ∙ across (a * k + 0) (b * k) (a * k) (b * k) (omega arith)
+
+pub less-natural : (a b n : ℕ) → subℕ a b -ℤ pos n ≡ subℕ a (b + n)
+less-natural a b n =
+    ap (λ z. z -ℤ pos n) (across a b (a + n) (b + n) (omega arith) ∙ sym (plus a (b + n) n)) ∙ +ℤ-negℤ-cancel (subℕ a (b + n)) (pos n)
+
+pub less-difference : (a b c d : ℕ) → subℕ a b -ℤ subℕ c d ≡ subℕ (a + d) (b + c)
+less-difference a b c d = go (decLt c d)
+  where
+    go : Dec (c < d) → subℕ a b -ℤ subℕ c d ≡ subℕ (a + d) (b + c)
+    go (yes h) = ap (λ z. subℕ a b -ℤ z) (sub-lt c d h) ∙ plus a b (suc (d - suc c)) ∙ across (a + suc (d - suc c)) b (a + d) (b + c) (omega arith)
+    go (no h) = ap (λ z. subℕ a b -ℤ z) (sub-ge c d (omega arith)) ∙ less-natural a b (c - d) ∙ across a (b + (c - d)) (a + d) (b + c) (omega arith)
+
+abbrev pub gap : ℕ → ℕ → ℕ
+gap a b = (a - b) + (b - a)
+
+pub size : (a b : ℕ) → natAbs (subℕ a b) ≡ gap a b
+size a b = go (decLt a b)
+  where
+    go : Dec (a < b) → natAbs (subℕ a b) ≡ gap a b
+    go (yes h) = ap natAbs (sub-lt a b h) ∙ omega arith
+    go (no h) = ap natAbs (sub-ge a b (omega arith)) ∙ omega arith
+
+pub at-most : (a b c d : ℕ) → a + d ≤ c + b → subℕ a b ≤ℤ subℕ c d
+at-most a b c d h =
+    rw (across a b (a + d) (b + d) (omega arith), across c d (c + b) (b + d) (omega arith))
+    (test-ge (order (b + d) (c + b) (a + d) ∙ le-ltb (c + b) (a + d) h))

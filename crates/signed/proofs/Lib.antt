@@ -4,3 +4,4 @@ pub mod Machine
 pub mod Floor
 pub mod Extend
 pub mod Sizes
+pub mod Promises

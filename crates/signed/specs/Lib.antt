@@ -1,2 +1,3 @@
 pub mod Floor
 pub mod Extend
+pub mod Promises

@@ -82,7 +82,7 @@ fn no_marks() -> [u8; 86400] {
 // A word of the day. What it says is a whole second of the day, which is marked, and comes back.
 fn try_word(layout: u32, word: i64, marks: &mut [u8]) -> Outcome {
     let said = decode(layout, word);
-    let Decoded::At(t) = said else {
+    let Decoded::Gives(t) = said else {
         return Outcome::Refused;
     };
     if t.nanos != 0 {
@@ -128,11 +128,11 @@ fn try_words(day: Day, marks: &mut [u8]) -> Tally {
 fn try_instant(layout: u32, second: usize, nanos: u32, latest: usize) -> Outcome {
     let seconds = from_bits(wrapping_add_u64(MIDNIGHT, second as u64));
     let written = encode(layout, Instant::new(seconds, nanos));
-    let Encoded::Word(word) = written else {
+    let Encoded::Gives(word) = written else {
         return Outcome::Wrong;
     };
     let said = decode(layout, word);
-    let Decoded::At(u) = said else {
+    let Decoded::Gives(u) = said else {
         return Outcome::Wrong;
     };
     if u.nanos != 0 {

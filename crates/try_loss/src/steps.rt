@@ -199,11 +199,11 @@ fn is_close(row: Row, t: Instant, word: i64, u: Instant) -> bool {
 fn try_instant(row: Row, t: Instant) -> Outcome {
     let layout = row.layout;
     let written = encode(layout, t);
-    let Encoded::Word(word) = written else {
+    let Encoded::Gives(word) = written else {
         return Outcome::Refused;
     };
     let said = decode(layout, word);
-    let Decoded::At(u) = said else {
+    let Decoded::Gives(u) = said else {
         return Outcome::Wrong;
     };
     if is_plain(layout, word) {

@@ -39,7 +39,7 @@ pub fn is_plain(layout: u32, word: i64) -> bool {
 // Whether a word says an instant.
 fn says(layout: u32, word: i64, t: Instant) -> bool {
     let said = decode(layout, word);
-    let Decoded::At(u) = said else {
+    let Decoded::Gives(u) = said else {
         return false;
     };
     if u.nanos != t.nanos {
@@ -51,7 +51,7 @@ fn says(layout: u32, word: i64, t: Instant) -> bool {
 // Whether an instant has this word.
 pub fn has_word(layout: u32, t: Instant, word: i64) -> bool {
     let written = encode(layout, t);
-    let Encoded::Word(again) = written else {
+    let Encoded::Gives(again) = written else {
         return false;
     };
     again == word
@@ -61,7 +61,7 @@ pub fn has_word(layout: u32, t: Instant, word: i64) -> bool {
 // zone can bring t before the first second that is written, or past the last: such words are not tried.)
 pub fn comes_back(layout: u32, word: i64, t: Instant) -> Outcome {
     let written = encode(layout, t);
-    let Encoded::Word(again) = written else {
+    let Encoded::Gives(again) = written else {
         return Outcome::Wrong;
     };
     if again == word {

@@ -15,7 +15,7 @@ const FIRST: u64 = 18613160454062080;
 // A word says a whole second, and comes back.
 fn try_word(word: i64) -> Outcome {
     let said = decode(LAYOUT, word);
-    let Decoded::At(t) = said else {
+    let Decoded::Gives(t) = said else {
         return Outcome::Refused;
     };
     if t.nanos != 0 {

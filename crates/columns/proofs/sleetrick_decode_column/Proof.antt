@@ -1,68 +1,96 @@
--- `sleetrick_decode_column` meets its contract: its shape, its layout number, and then its rows. Assumes nothing.
+-- `sleetrick_decode_column` meets its contract: its rows are counted, its layout number picks a rule, and then row by row. Assumes
+-- nothing.
 use borrow.Author.Needs.{needs}
-use mathlib.Core.Path.{sym, ap, _∙_}
-use native.Mathlib.Omega.{arith}
+use mathlib.Core.Path.{_≡_, sym, ap, _∙_}
+use lib.ListN.{length}
+use denote.Ref.{now}
+use Rattle.refusal.specs.Answers.{gives, refusalIn}
+use Rattle.rows.specs.Answers.{readRows}
+use Rattle.rows.specs.Counted.{rowsIn}
+use Rattle.rows.proofs.Promises.{rows-are-whole}
 use Rattle.registry.specs.Answers.{readPicked}
-use Rattle.registry.proofs.RuleNumbers.{no-rule}
-use Rattle.columns.proofs.Shapes.{fitting, by-shape, by-layout, by-rows}
+use Rattle.columns.specs.Columns.{decodeRow, decodeColumn}
+use Rattle.columns.proofs.Calls.{by-count, by-layout, by-rows}
 use Rattle.columns.proofs.sleetrick_decode_column.Statement.{statement}
 use Rattle.columns.proofs.sleetrick_decode_column.Tie as tie
 
-refused-shape-requires : tie.Need-refused-shape-requires
-refused-shape-requires c κs = search needs
+rows-in-requires : tie.Need-rows-in-requires
+rows-in-requires c κs = search needs
+
+enum-known-counted : tie.Need-enum-known-counted
+enum-known-counted c = search needs
+
+enum-told : tie.Need-enum-told
+enum-told c = search needs
+
+refusal-requires : tie.Need-refusal-requires
+refusal-requires c κs = search needs
 
 cast-result : tie.Need-cast-result
 cast-result c = search needs
 
 returns : tie.Need-returns
-returns c = by-shape _ _ _ _ _ _ _ (c .before .refused-shape .ensures) (c .if1 .taken)
+unfolding decodeColumn
+returns c =
+    let k = c .before in
+    let e = k .before .before .before .rows-in .ensures in
+    by-count decodeRow 8 12 _ _ _ (sym e ∙ ap readRows (k .before .enum-told .given .1)) (k .refusal .ensures ∙ ap refusalIn e)
 
 pick-requires : tie.Need-pick-requires
 pick-requires c κs = search needs
 
+-- the rows that were counted
+counted : (c : tie.After-pick) → let s = c .before .before .before .before .before .before .before .args in rowsIn (length (now (s .words))) (length (now (s .instants))) ≡ gives (c .before .before .counted .given .0 .0)
+counted c = sym (c .before .before .before .before .rows-in .ensures) ∙ ap readRows (c .before .before .counted .given .1)
+
 enum-known-picked : tie.Need-enum-known-picked
 enum-known-picked c = search needs
 
-enum-told : tie.Need-enum-told
-enum-told c = search needs
+enum-told-2 : tie.Need-enum-told-2
+enum-told-2 c = search needs
+
+refusal-requires-2 : tie.Need-refusal-requires-2
+refusal-requires-2 c κs = search needs
 
 cast-result-2 : tie.Need-cast-result-2
 cast-result-2 c = search needs
 
 returns-2 : tie.Need-returns-2
+unfolding decodeColumn
 returns-2 c =
-    let g = c .before .before in
-    by-layout _ _ _ _ _ _ _ (sym (g .before .before .refused-shape .ensures) ∙ g .before .if1 .left)
-    (no-rule _ (sym (ap readPicked (c .enum-told .given .1)) ∙ g .pick .ensures))
+    let k = c .before in
+    let p = k .before .before .before in
+    by-layout decodeRow 8 12 _ _ (counted p) (sym (p .pick .ensures) ∙ ap readPicked (k .before .enum-told2 .given .1)) (k .refusal2 .ensures ∙ ap refusalIn (p .pick .ensures))
 
 decode-rows-requires : tie.Need-decode-rows-requires
 decode-rows-requires c κs =
-    let g = c .before .before .before .before in
-    let f = fitting _ _ _ _ (sym (g .before .before .refused-shape .ensures) ∙ g .before .if1 .left) in
-    (f .3, (omega (arith, f .0), omega (arith, f .1, f .2)))
+    let w = rows-are-whole _ _ _ (counted (c .before .before .before .before)) in
+    (w .few, (w .words, w .instants))
 
 same-length : tie.Need-same-length
 same-length c = search needs
 
 returns-3 : tie.Need-returns-3
+unfolding decodeColumn
 returns-3 c =
     let d = c .before .before in
-    let g = d .before .before .before .before .before in
-    by-rows _ _ _ _ _ _ _ _ _ (sym (g .before .before .refused-shape .ensures) ∙ g .before .if1 .left)
-    (sym (g .pick .ensures) ∙ ap readPicked (d .before .before .before .picked .given .1))
-    (d .decode-rows .ensures .0)
-    (d .decode-rows .ensures .1)
+    let p = d .before .before .before .before .before in
+    by-rows decodeRow 8 12 _ _ (counted p) (sym (p .pick .ensures) ∙ ap readPicked (d .before .before .before .picked .given .1)) (d .decode-rows .ensures .0) (d .decode-rows .ensures .1)
 
 pub sleetrick-decode-column-spec : {M : Type 1} → statement M
 sleetrick-decode-column-spec =
     tie.close
     (tie.spec
-    refused-shape-requires
+    rows-in-requires
+    enum-known-counted
+    enum-told
+    refusal-requires
     cast-result
     returns
     pick-requires
     enum-known-picked
-    enum-told
+    enum-told-2
+    refusal-requires-2
     cast-result-2
     returns-2
     decode-rows-requires

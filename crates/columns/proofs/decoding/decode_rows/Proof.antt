@@ -3,13 +3,16 @@ use borrow.Author.Needs.{needs}
 use Prim.Native.Nat.{_+_, _-_, _*_}
 use mathlib.Core.Path.{_≡_, sym, ap, _∙_}
 use native.Mathlib.Omega.{arith}
-use lib.ListN.{length, take, drop}
+use lib.ListN.{length, take, drop, length-drop}
+use lib.Seq.{length-take-le}
 use denote.Ref.{now}
 use Rattle.refusal.specs.Answers.{gives}
 use Rattle.instant.specs.Answers.{readDecoded}
 use Rattle.registry.specs.Words.{decodeBy}
-use Rattle.columns.specs.Columns.{instantBytes, written, decodeRow}
-use Rattle.columns.proofs.Bytes.{instant-length}
+use Rattle.rows.specs.Cells.{instantBytes}
+use Rattle.rows.proofs.Over.{over-placed}
+use Rattle.rows.proofs.Promises.{row-lengths}
+use Rattle.columns.specs.Columns.{asBytes, decodeRow}
 use Rattle.columns.proofs.Turns.{Midway, start, more, stop, end}
 use Rattle.columns.proofs.decoding.decode_rows.Statement.{statement}
 use Rattle.columns.proofs.decoding.decode_rows.Tie as tie
@@ -83,19 +86,19 @@ same-length c = search needs
 -- what `decode_bits` answered, as the answer of the row
 told : (c : tie.After-decode-bits Inv-loop μ-loop) →
     let s = c .before .before .before .before .before .before .before in
-    decodeRow (s .args .rule) (take 8 (drop (8 * c .before .before .before .before .loop .i) (now (s .args .words)))) ≡ written instantBytes (readDecoded (c .decode-bits .result))
+    decodeRow (s .args .rule) (take 8 (drop (8 * c .before .before .before .before .loop .i) (now (s .args .words)))) ≡ asBytes instantBytes (readDecoded (c .decode-bits .result))
 unfolding decodeRow
 told c =
     let n = 8 * c .before .before .before .before .loop .i in
     let k : n + 8 - n ≡ 8 = omega arith in
     let s = c .before .before .before .before .before .before .before in
-    ap (written instantBytes) (ap (decodeBy (s .args .rule)) (sym (rw k at (c .before .get64 .ensures))) ∙ sym (c .decode-bits .ensures))
+    ap (asBytes instantBytes) (ap (decodeBy (s .args .rule)) (sym (rw k at (c .before .get64 .ensures))) ∙ sym (c .decode-bits .ensures))
 
 returns : tie.Need-returns Inv-loop μ-loop
 returns c =
     let d = c .before .before .before .before in
     stop _ _ _ _ _ _ (d .before .before .before .before .loop .inv) _ (d .before .before .before .loop-test .taken)
-    (told d ∙ ap (λ r. written instantBytes (readDecoded r)) (c .before .before .why .given .1))
+    (told d ∙ ap (λ r. asBytes instantBytes (readDecoded r)) (c .before .before .why .given .1))
 
 add-i : tie.Need-add-i Inv-loop μ-loop
 add-i c = search needs
@@ -108,10 +111,14 @@ loop-again c =
     let put = c .before .before .put-instant in
     let got = c .before .before .before .before .before .t .given in
     let d = c .before .before .before .before .before .before .before in
-    let f : put .last .0 ≡ instantBytes (got .0 .0) = put .ensures in
-    more _ _ _ _ _ _ (d .before .before .before .before .loop .inv) (put .last .0) (d .before .before .before .loop-test .taken) (search needs)
-    (told d ∙ ap (λ r. written instantBytes (readDecoded r)) (got .1) ∙ ap gives (sym f))
-    (ap length f ∙ instant-length (got .0 .0))
+    let l = d .before .before .before .before .loop in
+    let n = 12 * l .i in
+    let k : n + 12 - n ≡ 12 = omega arith in
+    let long : length (take 12 (drop n (l .instants))) ≡ 12 = length-take-le 12 (drop n (l .instants)) (omega (arith, length-drop n (l .instants))) in
+    let f : put .last .0 ≡ instantBytes (got .0 .0) = (rw k at (put .ensures)) ∙ over-placed (take 12 (drop n (l .instants))) (instantBytes (got .0 .0)) (row-lengths .0 (got .0 .0)) long in
+    more _ _ _ _ _ _ (l .inv) (put .last .0) (d .before .before .before .loop-test .taken) (search needs)
+    (told d ∙ ap (λ r. asBytes instantBytes (readDecoded r)) (got .1) ∙ ap gives (sym f))
+    (ap length f ∙ row-lengths .0 (got .0 .0))
 
 mul-result-2 : tie.Need-mul-result-2 Inv-loop μ-loop
 mul-result-2 c = search needs

@@ -11,8 +11,10 @@ use mir.Facts.{toZ-ofZ}
 use Rattle.refusal.specs.Answers.{gives}
 use Rattle.instant.specs.Answers.{readEncoded}
 use Rattle.registry.specs.Words.{encodeBy}
-use Rattle.columns.specs.Columns.{wordBytes, written, encodeRow}
-use Rattle.columns.proofs.Bytes.{word-length}
+use Rattle.rows.specs.Cells.{wordBytes}
+use Rattle.rows.proofs.Over.{over-placed}
+use Rattle.rows.proofs.Promises.{row-lengths}
+use Rattle.columns.specs.Columns.{asBytes, encodeRow}
 use Rattle.columns.proofs.Turns.{Midway, start, more, stop, end}
 use Rattle.columns.proofs.encoding.encode_rows.Statement.{statement}
 use Rattle.columns.proofs.encoding.encode_rows.Tie as tie
@@ -56,20 +58,17 @@ mul-start c = search needs
 add-end : tie.Need-add-end Inv-loop μ-loop
 add-end c = search needs
 
-sub-put : tie.Need-sub-put Inv-loop μ-loop
-sub-put c = search needs
+sub-put-word : tie.Need-sub-put-word Inv-loop μ-loop
+sub-put-word c = search needs
 
-part-put-start : tie.Need-part-put-start Inv-loop μ-loop
-part-put-start c = search needs
+part-put-word-start : tie.Need-part-put-word-start Inv-loop μ-loop
+part-put-word-start c = search needs
 
-part-put-end : tie.Need-part-put-end Inv-loop μ-loop
-part-put-end c = search needs
+part-put-word-end : tie.Need-part-put-word-end Inv-loop μ-loop
+part-put-word-end c = search needs
 
-to-bits-requires : tie.Need-to-bits-requires Inv-loop μ-loop
-to-bits-requires c κs = search needs
-
-put-requires : tie.Need-put-requires Inv-loop μ-loop
-put-requires c κs = search needs
+put-word-requires : tie.Need-put-word-requires Inv-loop μ-loop
+put-word-requires c κs = search needs
 
 enum-known-why : tie.Need-enum-known-why Inv-loop μ-loop
 enum-known-why c = search needs
@@ -89,19 +88,19 @@ same-length c = search needs
 -- what `encode_by` answered, as the answer of the row
 told : (c : tie.After-encode-by Inv-loop μ-loop) →
     let s = c .before .before .before .before .before .before .before in
-    encodeRow (s .args .rule) (take 12 (drop (12 * c .before .before .before .before .loop .i) (now (s .args .instants)))) ≡ written wordBytes (readEncoded (c .encode-by .result))
+    encodeRow (s .args .rule) (take 12 (drop (12 * c .before .before .before .before .loop .i) (now (s .args .instants)))) ≡ asBytes wordBytes (readEncoded (c .encode-by .result))
 unfolding encodeRow
 told c =
     let n = 12 * c .before .before .before .before .loop .i in
     let k : n + 12 - n ≡ 12 = omega arith in
     let s = c .before .before .before .before .before .before .before in
-    ap (written wordBytes) (ap (encodeBy (s .args .rule)) (sym (rw k at (c .before .instant-in .ensures))) ∙ sym (c .encode-by .ensures))
+    ap (asBytes wordBytes) (ap (encodeBy (s .args .rule)) (sym (rw k at (c .before .instant-in .ensures))) ∙ sym (c .encode-by .ensures))
 
 returns : tie.Need-returns Inv-loop μ-loop
 returns c =
     let d = c .before .before .before .before in
     stop _ _ _ _ _ _ (d .before .before .before .before .loop .inv) _ (d .before .before .before .loop-test .taken)
-    (told d ∙ ap (λ r. written wordBytes (readEncoded r)) (c .before .before .why .given .1))
+    (told d ∙ ap (λ r. asBytes wordBytes (readEncoded r)) (c .before .before .why .given .1))
 
 add-i : tie.Need-add-i Inv-loop μ-loop
 add-i c = search needs
@@ -111,18 +110,18 @@ loop-less c = search needs
 
 loop-again : tie.Need-loop-again Inv-loop μ-loop
 loop-again c =
-    let put = c .before .before .put in
-    let got = c .before .before .before .before .before .before .word .given in
-    let d = c .before .before .before .before .before .before .before .before in
+    let put = c .before .before .put-word in
+    let got = c .before .before .before .before .before .word .given in
+    let d = c .before .before .before .before .before .before .before in
     let l = d .before .before .before .before .loop in
     let n = 8 * l .i in
     let k : n + 8 - n ≡ 8 = omega arith in
     let long : length (take 8 (drop n (l .words))) ≡ 8 = length-take-le 8 (drop n (l .words)) (omega (arith, length-drop n (l .words))) in
-    let f : put .last .0 ≡ wordBytes (got .0 .0) =
-    rw (k, long, c .before .before .before .to-bits .ensures, toZ-ofZ {w = w64} {z = got .0 .0} (search needs)) at (put .ensures) in
+    let z = toZ-ofZ {w = w64} {z = got .0 .0} (search needs) in
+    let f : put .last .0 ≡ wordBytes (got .0 .0) = (rw (k, z) at (put .ensures)) ∙ over-placed (take 8 (drop n (l .words))) (wordBytes (got .0 .0)) (row-lengths .1 (got .0 .0)) long in
     more _ _ _ _ _ _ (l .inv) (put .last .0) (d .before .before .before .loop-test .taken) (search needs)
-    (told d ∙ ap (λ r. written wordBytes (readEncoded r)) (got .1) ∙ ap gives (sym f))
-    (ap length f ∙ word-length (got .0 .0))
+    (told d ∙ ap (λ r. asBytes wordBytes (readEncoded r)) (got .1) ∙ ap gives (sym f))
+    (ap length f ∙ row-lengths .1 (got .0 .0))
 
 mul-result-2 : tie.Need-mul-result-2 Inv-loop μ-loop
 mul-result-2 c = search needs
@@ -150,11 +149,10 @@ encode-rows-spec =
     enum-known-word
     mul-start
     add-end
-    sub-put
-    part-put-start
-    part-put-end
-    to-bits-requires
-    put-requires
+    sub-put-word
+    part-put-word-start
+    part-put-word-end
+    put-word-requires
     enum-known-why
     mul-result
     cast-result

@@ -7,9 +7,9 @@ use lib.IntN.{pos}
 use mir.Syntax.{w64}
 use mir.Val.{toZ}
 use mir.Facts.{toZ-ofZ, toZ-pos}
-use Rattle.instant.proofs.Parts.{of-parts}
-use Rattle.places.specs.Orders.{reversed}
+use Rattle.byte_orders.specs.Orders.{reversed}
 use Rattle.counts.proofs.NokiaSeconds.{reversed-small, no-count, counted, count-fits}
+use Rattle.refusal.specs.Answers.{gives}
 use Rattle.counts.proofs.nokia.decode_nokia.Statement.{statement}
 use Rattle.counts.proofs.nokia.decode_nokia.Tie as tie
 
@@ -42,7 +42,7 @@ returns-2 : tie.Need-returns-2
 returns-2 c =
     let p = c .before in
     let f = count-fits _ (small p) in
-    of-parts (rw (count p, toZ-ofZ (f .0), toZ-ofZ (f .1)) at (c .at-second .ensures)) ∙ sym (counted (p .before .before .args .bits) (p .before .if1 .left))
+    ap gives (rw (count p, toZ-ofZ (f .0), toZ-ofZ (f .1)) at (c .at-second .ensures)) ∙ sym (counted (p .before .before .args .bits) (p .before .if1 .left))
 
 pub decode-nokia-spec : {M : Type 1} → statement M
 decode-nokia-spec =

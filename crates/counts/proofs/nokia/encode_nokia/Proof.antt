@@ -12,8 +12,8 @@ use mir.Facts.{toZ-ofZ, toZ-pos}
 use Rattle.refusal.specs.Answers.{gives}
 use Rattle.signed.proofs.Differences.{raised}
 use Rattle.signed.proofs.Machine.{read-nat, cast-nat}
-use Rattle.instant.proofs.Parts.{no-nanos}
-use Rattle.places.specs.Orders.{reversed}
+use Rattle.instant.proofs.Nanos.{no-nanos}
+use Rattle.byte_orders.specs.Orders.{reversed}
 use Rattle.counts.specs.Nokia.{nokiaWord, nokiaEncode}
 use Rattle.counts.proofs.NokiaSeconds.{reversed-small, count, count-small, early, late, in-range}
 use Rattle.counts.proofs.nokia.encode_nokia.Statement.{statement}

@@ -1,14 +1,14 @@
 -- `decode_sql` meets its contract: a day of 32 bits, so the sums fit. Assumes nothing.
 use borrow.Author.Needs.{needs}
-use mathlib.Core.Path.{_≡_, sym, _∙_}
+use mathlib.Core.Path.{_≡_, sym, _∙_, ap}
 use Prim.Native.Nat.{_/_}
 use lib.IntN.{pos}
 use mir.Syntax.{w64}
 use mir.Val.{toZ, ofZ}
 use mir.Facts.{toZ-ofZ, toZ-pos}
-use Rattle.instant.proofs.Parts.{of-parts}
 use Rattle.counts.specs.Sql.{sqlDay, sqlTicks}
 use Rattle.counts.proofs.SqlDays.{seconds-fit, no-ticks, ticks}
+use Rattle.refusal.specs.Answers.{gives}
 use Rattle.counts.proofs.sql.decode_sql.Statement.{statement}
 use Rattle.counts.proofs.sql.decode_sql.Tie as tie
 
@@ -54,7 +54,7 @@ returns-2 : tie.Need-returns-2
 returns-2 c =
     let d = c .before in
     let f = seconds-fit (d .before .before .args .bits) (d .before .if1 .left) in
-    of-parts (rw (day d, toZ-ofZ (f .0), time d, toZ-ofZ (f .1), toZ-ofZ (f .2)) at (c .new .ensures))
+    ap gives (rw (day d, toZ-ofZ (f .0), time d, toZ-ofZ (f .1), toZ-ofZ (f .2)) at (c .new .ensures))
     ∙ sym (ticks (d .before .before .args .bits) (d .before .if1 .left))
 
 pub decode-sql-spec : {M : Type 1} → statement M

@@ -9,7 +9,7 @@ use mir.Val.{SFits, toZ, ofZ}
 use mir.Facts.{toZ-ofZ}
 use Rattle.signed.specs.Floor.{floorDiv, floorRem}
 use Rattle.signed.proofs.Sizes.{sum, sum-fits}
-use Rattle.instant.proofs.Parts.{no-nanos}
+use Rattle.instant.proofs.Nanos.{no-nanos}
 use Rattle.counts.specs.Sql.{sqlWord, sqlEncode}
 use Rattle.counts.proofs.SqlDays.{since-1900, days-small, time-small}
 use Rattle.counts.proofs.sql.encode_sql.Statement.{statement}

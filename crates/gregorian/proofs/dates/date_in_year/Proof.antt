@@ -3,8 +3,8 @@ use borrow.Author.Needs.{needs}
 use mathlib.Core.Path.{sym, ap, _∙_, subst}
 use mir.Syntax.{w64}
 use mir.Facts.{toZ-ofZ}
-use Rattle.lengths.specs.Lengths.{leap, daysOfMonths, yearDays, yearAt}
-use Rattle.lengths.proofs.Months.{month-most}
+use Rattle.month_lengths.specs.Lengths.{leap, daysOfMonths, yearDays, yearAt}
+use Rattle.month_lengths.proofs.Months.{month-most}
 use Rattle.gregorian.specs.Parts.{InMonth}
 use Rattle.gregorian.proofs.Days.{date-in-year}
 use native.Mathlib.Omega.{arith}

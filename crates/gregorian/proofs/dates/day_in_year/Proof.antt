@@ -7,9 +7,9 @@ use lib.ListN.{getD}
 use mir.Syntax.{w64}
 use mir.Facts.{toZ-ofZ}
 use Rattle.refusal.specs.Answers.{gives}
-use Rattle.lengths.specs.Lengths.{leap, months, monthLength, yearAt, daysOfMonths}
-use Rattle.lengths.proofs.Months.{month-most}
-use Rattle.gregorian.specs.Gregorian.{daysOfYears}
+use Rattle.month_lengths.specs.Lengths.{leap, months, monthLength, yearAt, daysOfMonths}
+use Rattle.month_lengths.proofs.Months.{month-most}
+use Rattle.gregorian.specs.Gregorian.{daysOfYears, epochDay}
 use Rattle.gregorian.proofs.YearSums.{years-high}
 use Rattle.gregorian.proofs.MonthSums.{months-most}
 use Rattle.gregorian.proofs.Tests.{month-early, month-late, day-early, day-late, month-day-good}
@@ -78,7 +78,7 @@ returns-5 c =
     rw (month-day-good y (s .args .month) (s .args .day) (omega arith) (omega arith) (omega arith) (omega (arith, length-is (c .before .before .before))))
     (ap gives
     (toZ-ofZ {w = w64} (record { sfits = c .number-at .ok }) ∙ c .number-at .ensures
-    ∙ ap (λ n. subℕ n 4371953) (total (c .before) ∙ sym (days-in-year (s .args .years) (s .args .month) (s .args .day)))
+    ∙ ap (λ n. subℕ n epochDay) (total (c .before) ∙ sym (days-in-year (s .args .years) (s .args .month) (s .args .day)))
     ∙ sym (number y (s .args .month) (s .args .day))))
 
 pub day-in-year-spec : {M : Type 1} → statement M

@@ -3,6 +3,7 @@ use borrow.Author.Needs.{needs}
 use mir.Syntax.{w64}
 use native.Mathlib.Omega.{arith}
 use Rattle.signed.proofs.Machine.{lowers}
+use Rattle.gregorian.specs.Gregorian.{epochDay}
 use Rattle.gregorian.proofs.dates.number_at.Statement.{statement}
 use Rattle.gregorian.proofs.dates.number_at.Tie as tie
 
@@ -10,10 +11,10 @@ cast-result : tie.Need-cast-result
 cast-result c = search needs
 
 sub-result : tie.Need-sub-result
-sub-result c = lowers w64 (c .args .days) 4371953 (omega arith) (omega arith) .fits
+sub-result c = lowers w64 (c .args .days) epochDay (omega arith) (omega arith) .fits
 
 returns : tie.Need-returns
-returns c = lowers w64 (c .args .days) 4371953 (omega arith) (omega arith) .is
+returns c = lowers w64 (c .args .days) epochDay (omega arith) (omega arith) .is
 
 pub number-at-spec : {M : Type 1} → statement M
 number-at-spec = tie.close (tie.spec cast-result sub-result returns)

@@ -3,7 +3,7 @@ use borrow.Author.Needs.{needs}
 use mathlib.Core.Path.{refl}
 use Prim.Native.Nat.{_-_, _/_, _<_, _≤_}
 use lib.ListN.{getD}
-use Rattle.lengths.specs.Lengths.{months, daysOfMonths}
+use Rattle.month_lengths.specs.Lengths.{months, daysOfMonths}
 use Rattle.gregorian.proofs.MonthSums.{guess-most, guess-low, guess-right, guess-early}
 use native.Mathlib.Omega.{arith}
 use Rattle.gregorian.proofs.months.month_of.Statement.{statement}

@@ -74,10 +74,7 @@ returns-2 c =
     let layout = toZ-ofZ {w = w64} {z = q .0 .0} (search needs) in
     let seconds = toZ-ofZ {w = w64} {z = q .0 .1 .0} (search needs) in
     let nanos = toZ-ofZ {w = w64} {z = q .0 .1 .1 .0} (nanos-fit (n .before)) in
-    let s = rw seconds at (t .new .ensures .0) in
-    let k = t .new .ensures .1 ∙ (rw nanos at (n .narrow2 .ensures)) in
-    let instant : t .new .result ≡ instantAsked (q .0 .1 .0) (q .0 .1 .1 .0) =
-    λ i. record { seconds = s i; nanos = k i } in
+    let instant : t .new .result ≡ instantAsked (q .0 .1 .0) (q .0 .1 .1 .0) = rw (seconds, rw nanos at (n .narrow2 .ensures)) at (t .new .ensures) in
     let word = rw (rw layout at (l .narrow3 .ensures), instant) at (e .encode .ensures) in
     rw (q .1) (rw word at (c .before .before .put-encoded .ensures))
 

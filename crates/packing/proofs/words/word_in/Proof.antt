@@ -7,7 +7,7 @@ use mir.Syntax.{w64}
 use mir.Facts.{toZ-pos}
 use Rattle.refusal.specs.Answers.{gives}
 use Rattle.packing.specs.Answers.{readPacked}
-use Rattle.packing.specs.Parts.{asWord, InWord}
+use Rattle.packing.specs.Parts.{asWord, Below63}
 use Rattle.packing.proofs.words.word_in.Statement.{statement}
 use Rattle.packing.proofs.words.word_in.Tie as tie
 
@@ -15,7 +15,7 @@ enum-known-packed : tie.Need-enum-known-packed
 enum-known-packed c = search needs
 
 small : (c : tie.After-known-told) → c .before .packed .given .0 .0 < 2 ^ 63
-small c = subst (λ x. InWord (readPacked x)) (c .before .packed .given .1) (c .before .before .before .pre)
+small c = subst (λ x. Below63 (readPacked x)) (c .before .packed .given .1) (c .before .before .before .pre)
 
 cast-word : tie.Need-cast-word
 cast-word c = record { sfits = omega (arith, small c) }

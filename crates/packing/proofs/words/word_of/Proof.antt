@@ -1,15 +1,17 @@
 -- `word_of` meets its contract: the answer about the seconds, taken apart, and the packed bits. Assumes nothing.
 use borrow.Author.Needs.{needs}
-use mathlib.Core.Path.{_≡_, sym, ap, _∙_, subst}
+use mathlib.Core.Path.{_≡_, refl, sym, ap, _∙_, subst}
 use mir.Facts.{toZ-ofZ}
-use Rattle.refusal.specs.Answers.{gives}
-use Rattle.civil.specs.Answers.{readFields, fieldsFor}
-use Rattle.civil.specs.Promises.{Ranged}
-use Rattle.civil.proofs.Answers.{no-fields, ranged-fields}
-use Rattle.packing.specs.Writing.{layoutIn, writeFields}
-use Rattle.packing.specs.Parts.{asWord, InWord}
+use Rattle.refusal.specs.Answers.{gives, refusalIn}
+use Rattle.refusal.proofs.Answers.{handed-on}
+use Rattle.day_time.specs.Answers.{readFields, fieldsFor}
+use Rattle.day_time.specs.Promises.{Ranged}
+use Rattle.day_time.proofs.Answers.{ranged-fields}
+use Rattle.layouts.specs.Layouts.{layoutFor}
+use Rattle.packing.specs.Writing.{writeFields}
+use Rattle.packing.specs.Parts.{asWord, Below63}
 use Rattle.packing.proofs.Packing.{its-word, in-word}
-use Rattle.packing.proofs.Fourteen.{shape-writable}
+use Rattle.packing.proofs.Writable.{writable}
 use Rattle.packing.proofs.words.word_of.Statement.{statement}
 use Rattle.packing.proofs.words.word_of.Tie as tie
 
@@ -26,10 +28,14 @@ enum-told c = search needs
 answered : (c : tie.After-fields-of) → readFields (c .fields-of .result) ≡ fieldsFor (c .before .args .seconds)
 answered c = rw (toZ-ofZ (c .before .fits .seconds)) at (c .fields-of .ensures)
 
+refusal-requires : tie.Need-refusal-requires
+refusal-requires c κs = search needs
+
 returns : tie.Need-returns
 returns c =
-    let f = c .before .before in
-    sym (ap (writeFields (layoutIn (f .before .args .shape))) (no-fields (f .before .args .seconds) (sym (ap readFields (c .enum-told .given .1)) ∙ answered f)))
+    let k = c .before in
+    let f = k .before .before in
+    handed-on (writeFields (layoutFor (f .before .args .kind))) (λ n. refl) (sym (answered f) ∙ ap readFields (k .enum-told .given .1)) (c .refusal .ensures ∙ ap refusalIn (answered f))
 
 given : (c : tie.After-known-told) → gives (c .before .found .given .0 .0) ≡ fieldsFor (c .before .before .before .before .args .seconds)
 given c = sym (ap readFields (c .before .found .given .1)) ∙ answered (c .before .before .before)
@@ -37,19 +43,19 @@ given c = sym (ap readFields (c .before .found .given .1)) ∙ answered (c .befo
 ranged : (c : tie.After-known-told) → Ranged (c .before .found .given .0 .0)
 ranged c = ranged-fields (c .before .before .before .before .args .seconds) (given c)
 
-write-shape-requires : tie.Need-write-shape-requires
-write-shape-requires c κs = ranged c
+write-kind-requires : tie.Need-write-kind-requires
+write-kind-requires c κs = ranged c
 
 word-in-requires : tie.Need-word-in-requires
 word-in-requires c κs =
-    let k = c .before .before .before .before .before .args .shape in
-    subst InWord (sym (c .write-shape .ensures)) (in-word (layoutIn k) _ (shape-writable k) (ranged (c .before)))
+    let k = c .before .before .before .before .before .args .kind in
+    subst Below63 (sym (c .write-kind .ensures)) (in-word (layoutFor k) _ (writable k) (ranged (c .before)))
 
 returns-2 : tie.Need-returns-2
 returns-2 c =
     let k = c .before .before in
-    let l = layoutIn (k .before .before .before .before .args .shape) in
-    c .word-in .ensures ∙ ap asWord (c .before .write-shape .ensures) ∙ its-word l _ ∙ ap (writeFields l) (given k)
+    let l = layoutFor (k .before .before .before .before .args .kind) in
+    c .word-in .ensures ∙ ap asWord (c .before .write-kind .ensures) ∙ its-word l _ ∙ ap (writeFields l) (given k)
 
 pub word-of-spec : {M : Type 1} → statement M
 word-of-spec =
@@ -58,7 +64,8 @@ word-of-spec =
     fields-of-requires
     enum-known-found
     enum-told
+    refusal-requires
     returns
-    write-shape-requires
+    write-kind-requires
     word-in-requires
     returns-2)

@@ -3,13 +3,13 @@ use borrow.Author.Needs.{needs}
 use mathlib.Core.Path.{_≡_, refl, sym, ap, _∙_}
 use Prim.Native.Nat.{ℕ}
 use Rattle.refusal.specs.Answers.{Answer}
-use Rattle.civil.specs.declared.times.Civil.{Civil}
-use Rattle.places.specs.Orders.{reversed, yearSwapped}
-use Rattle.fields.specs.Layouts.{layoutFor, bitDate, ns40Le}
-use Rattle.fields.specs.declared.kinds.Kind.{Kind}
-use Rattle.fields.specs.declared.kinds.Kind.the-variants.{FatDos, ExFat, Dttm, BitDate, BitDec, Moto, Symantec, Dvr, Ns40, Ns40Le, LogTime}
+use Rattle.day_time.specs.declared.times.Civil.{Civil}
+use Rattle.byte_orders.specs.Orders.{reversed, yearSwapped}
+use Rattle.layouts.specs.Layouts.{layoutFor, bitDate, ns40Le}
+use Rattle.layouts.specs.declared.kinds.Kind.{Kind}
+use Rattle.layouts.specs.declared.kinds.Kind.the-variants.{FatDos, ExFat, Dttm, BitDate, BitDec, Moto, Symantec, Dvr, Ns40, Ns40Le, LogTime, Gsm}
 use Rattle.packing.specs.Parts.{reordered, writeBits, writeBy}
-use Rattle.packing.proofs.Fourteen.{writable}
+use Rattle.packing.proofs.Writable.{writable}
 use Rattle.packing.proofs.Packing.{as-they-are, as-reversed, as-year-swapped}
 use Rattle.packing.proofs.words.write_kind.Statement.{statement}
 use Rattle.packing.proofs.words.write_kind.Tie as tie
@@ -102,6 +102,12 @@ enum-told-13 c = search needs
 write-pairs-requires-2 : tie.Need-write-pairs-requires-2
 write-pairs-requires-2 c κs = search needs
 
+enum-told-14 : tie.Need-enum-told-14
+enum-told-14 c = search needs
+
+write-semi-octets-requires : tie.Need-write-semi-octets-requires
+write-semi-octets-requires c κs = ((writable Gsm, c .before .before .pre), refl)
+
 returns : tie.Need-returns
 returns c = by-kind (c .before .before .before .args .c) (c .before .enum-told .given .1) (c .write-bits .ensures ∙ sym (as-they-are _))
 
@@ -141,6 +147,9 @@ returns-12 c = by-kind (c .before .before .before .args .c) (c .before .enum-tol
 returns-13 : tie.Need-returns-13
 returns-13 c = by-kind (c .before .before .before .args .c) (c .before .enum-told13 .given .1) (c .write-pairs2 .ensures ∙ sym (as-they-are _))
 
+returns-14 : tie.Need-returns-14
+returns-14 c = by-kind (c .before .before .before .args .c) (c .before .enum-told14 .given .1) (c .write-semi-octets .ensures ∙ sym (as-they-are _))
+
 pub write-kind-spec : {M : Type 1} → statement M
 write-kind-spec =
     tie.close
@@ -173,6 +182,8 @@ write-kind-spec =
     write-bits-requires-11
     enum-told-13
     write-pairs-requires-2
+    enum-told-14
+    write-semi-octets-requires
     returns
     returns-2
     returns-3
@@ -185,4 +196,5 @@ write-kind-spec =
     returns-10
     returns-11
     returns-12
-    returns-13)
+    returns-13
+    returns-14)

@@ -1,6 +1,6 @@
 -- `moved` meets its contract: no bit is shifted out. Assumes nothing.
 use borrow.Author.Needs.{needs}
-use Rattle.fields.proofs.Powers.{up}
+use Rattle.layouts.proofs.Powers.{up}
 use Rattle.packing.proofs.write.moved.Statement.{statement}
 use Rattle.packing.proofs.write.moved.Tie as tie
 

@@ -2,8 +2,8 @@
 use borrow.Author.Needs.{needs}
 use mathlib.Core.Path.{_≡_, _∙_}
 use Prim.Native.Nat.{_^_}
-use Rattle.places.proofs.SixPairs.{counts}
-use Rattle.fields.specs.Reading.{swapped}
+use Rattle.layouts.proofs.SixPairs.{counts}
+use Rattle.layouts.specs.Pairs.{swapped}
 use Rattle.packing.specs.Writing.{steps, numeral}
 use Rattle.packing.proofs.Packing.{pair-place, hundred-small}
 use Rattle.packing.proofs.write.placed_pair.Statement.{statement}

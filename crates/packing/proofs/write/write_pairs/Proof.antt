@@ -5,10 +5,10 @@ use mathlib.Core.Path.{_≡_, sym, ap, subst, _∙_}
 use mir.Syntax.{w64}
 use mir.Val.{SFits, ofZ}
 use mir.Facts.{toZ-ofZ}
-use Rattle.fields.specs.Parts.{pairs}
-use Rattle.fields.proofs.Fourteen.{pair-sound}
+use Rattle.layouts.specs.Layouts.{pairs}
+use Rattle.layouts.proofs.SixPairs.{pair-digits}
 use Rattle.packing.specs.Parts.{Writable, writeBits}
-use Rattle.packing.proofs.Fourteen.{pair-writable}
+use Rattle.packing.proofs.Writable.{pair-writable}
 use Rattle.packing.proofs.Packing.{packing, written, unwritten}
 use Rattle.packing.proofs.write.write_pairs.Statement.{statement}
 use Rattle.packing.proofs.write.write_pairs.Tie as tie
@@ -25,7 +25,7 @@ its-limits c = subst Writable (sym (c .before .before .pair-layout .ensures)) (p
 its-digits : (c : tie.After-to-bits) → c .before .before .pair-layout .result .digits ≡ pairs (c .before .before .before .args .swapped)
 its-digits c =
     let b = c .before .before .before .args .swapped in
-    subst (λ l. l .digits ≡ pairs b) (sym (c .before .before .pair-layout .ensures)) (pair-sound b .1)
+    subst (λ l. l .digits ≡ pairs b) (sym (c .before .before .pair-layout .ensures)) (pair-digits b)
 
 pair-layout-requires : tie.Need-pair-layout-requires
 pair-layout-requires c κs = search needs

@@ -1,15 +1,15 @@
 -- `less_zone` meets its contract: the offset, which is small, is taken off or added by the sign. Assumes nothing.
 use borrow.Author.Needs.{needs}
-use mathlib.Core.Path.{_≡_, sym, _∙_}
+use mathlib.Core.Path.{_≡_, sym, _∙_, ap}
 use native.Mathlib.Omega.{arith}
 use lib.IntN.{pos, _+ℤ_, _-ℤ_}
 use mir.Syntax.{w64}
 use mir.Val.{SFits, toZ, ofZ}
 use mir.Facts.{toZ-ofZ, toZ-pos}
 use Rattle.signed.proofs.Sizes.{sum-fits, less-fits}
-use Rattle.instant.proofs.Parts.{of-parts}
 use Rattle.registry.specs.Words.{zoneSize}
 use Rattle.registry.proofs.Zones.{no-zone, east, west}
+use Rattle.refusal.specs.Answers.{gives}
 use Rattle.registry.proofs.zone.less_zone.Statement.{statement}
 use Rattle.registry.proofs.zone.less_zone.Tie as tie
 
@@ -51,7 +51,7 @@ returns-2 : tie.Need-returns-2
 returns-2 c =
     let e = c .before .before .before in
     let s = e .before .args in
-    of-parts (rw (seconds e, offset e, toZ-ofZ (less e)) at (c .new .ensures)) ∙ sym (east (s .zone) (s .local) (e .if1 .left) (c .before .if2 .taken))
+    ap gives (rw (seconds e, offset e, toZ-ofZ (less e)) at (c .new .ensures)) ∙ sym (east (s .zone) (s .local) (e .if1 .left) (c .before .if2 .taken))
 
 add-new : tie.Need-add-new
 add-new c = let e = c .before .before in rw (seconds e, offset e) (more e)
@@ -63,7 +63,7 @@ returns-3 : tie.Need-returns-3
 returns-3 c =
     let e = c .before .before .before in
     let s = e .before .args in
-    of-parts (rw (seconds e, offset e, toZ-ofZ (more e)) at (c .new2 .ensures)) ∙ sym (west (s .zone) (s .local) (e .if1 .left) (c .before .if2 .left))
+    ap gives (rw (seconds e, offset e, toZ-ofZ (more e)) at (c .new2 .ensures)) ∙ sym (west (s .zone) (s .local) (e .if1 .left) (c .before .if2 .left))
 
 pub less-zone-spec : {M : Type 1} → statement M
 less-zone-spec =

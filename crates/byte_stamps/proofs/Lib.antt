@@ -1,0 +1,3 @@
+pub mod StampLength
+pub mod OracleYear
+pub mod UdfZone

@@ -1,0 +1,44 @@
+-- `word_of` meets its contract: what is lent starts at byte k. Assumes nothing.
+use borrow.Author.Needs.{needs}
+use Prim.Native.Nat.{_-_}
+use mathlib.Core.Path.{_∙_}
+use native.Mathlib.Omega.{arith}
+use lib.ListN.{length, drop}
+use lib.Seq.{take-take}
+use denote.Ref.{now}
+use Rattle.byte_stamps.proofs.bytes.word_of.Statement.{statement}
+use Rattle.byte_stamps.proofs.bytes.word_of.Tie as tie
+
+sub-get16 : tie.Need-sub-get16
+sub-get16 c = search needs
+
+part-get16-start : tie.Need-part-get16-start
+part-get16-start c = search needs
+
+part-get16-end : tie.Need-part-get16-end
+part-get16-end c = search needs
+
+get16-requires : tie.Need-get16-requires
+get16-requires c κs = search needs
+
+widened-pair-requires : tie.Need-widened-pair-requires
+widened-pair-requires c κs = search needs
+
+returns : tie.Need-returns
+returns c =
+    let s = c .before .before .before .before in
+    let b = now (s .args .stamp) in
+    let k = s .args .k in
+    let e = rw (take-take 2 (length b - k) (drop k b) (omega arith)) at (c .before .get16 .ensures) in
+    (c .widened-pair .ensures .0 ∙ e, c .widened-pair .ensures .1)
+
+pub word-of-spec : {M : Type 1} → statement M
+word-of-spec =
+    tie.close
+    (tie.spec
+    sub-get16
+    part-get16-start
+    part-get16-end
+    get16-requires
+    widened-pair-requires
+    returns)

@@ -1,0 +1,4 @@
+pub mod Bytes
+pub mod OracleStamp
+pub mod Cp56Stamp
+pub mod UdfStamp

@@ -1,0 +1,5 @@
+pub mod Window
+pub mod Days
+pub mod Promises
+pub mod Order
+pub mod Answers

@@ -1,3 +1,0 @@
-pub mod Powers
-pub mod Values
-pub mod Fourteen

@@ -1,0 +1,3 @@
+pub mod Powers
+pub mod SixPairs
+pub mod Promises

@@ -1,0 +1,3 @@
+pub mod Layouts
+pub mod Pairs
+pub mod Promises

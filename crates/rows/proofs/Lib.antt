@@ -1,0 +1,3 @@
+pub mod Tails
+pub mod Over
+pub mod Promises

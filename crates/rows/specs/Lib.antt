@@ -1,0 +1,4 @@
+pub mod Cells
+pub mod Counted
+pub mod Answers
+pub mod Promises

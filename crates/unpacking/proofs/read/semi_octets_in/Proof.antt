@@ -1,0 +1,52 @@
+-- `semi_octets_in` meets its contract: its six values are those of the fields. Assumes nothing.
+use borrow.Author.Needs.{needs}
+use mathlib.Core.Path.{sym}
+use mir.Syntax.{w64}
+use mir.Facts.{toZ-pos}
+use Rattle.layouts.specs.declared.layouts.Digits.the-variants.{SemiOctets}
+use Rattle.unpacking.proofs.Values.{fields-are}
+use native.Mathlib.Omega.{arith}
+use Rattle.unpacking.proofs.read.semi_octets_in.Statement.{statement}
+use Rattle.unpacking.proofs.read.semi_octets_in.Tie as tie
+
+semi-octet-at-requires : tie.Need-semi-octet-at-requires
+semi-octet-at-requires c κs = search needs
+
+cast-year : tie.Need-cast-year
+cast-year c = search needs
+
+semi-octet-at-requires-2 : tie.Need-semi-octet-at-requires-2
+semi-octet-at-requires-2 c κs = search needs
+
+semi-octet-at-requires-3 : tie.Need-semi-octet-at-requires-3
+semi-octet-at-requires-3 c κs = search needs
+
+semi-octet-at-requires-4 : tie.Need-semi-octet-at-requires-4
+semi-octet-at-requires-4 c κs = search needs
+
+semi-octet-at-requires-5 : tie.Need-semi-octet-at-requires-5
+semi-octet-at-requires-5 c κs = search needs
+
+semi-octet-at-requires-6 : tie.Need-semi-octet-at-requires-6
+semi-octet-at-requires-6 c κs = search needs
+
+returns : tie.Need-returns
+returns c =
+    let s = c .before .before .before .before .before .before in
+    let y = c .before .before .before .before .before .semi-octet-at in
+    rw (toZ-pos w64 {n = y .result} (omega (arith, y .ensures .1)))
+    (sym (fields-are (s .args .l) (s .args .p) SemiOctets _ _ _ _ _ _ (s .pre .1) (y .ensures .0) (c .before .before .before .before .semi-octet-at2 .ensures .0) (c .before .before .before .semi-octet-at3 .ensures .0)
+    (c .before .before .semi-octet-at4 .ensures .0) (c .before .semi-octet-at5 .ensures .0) (c .semi-octet-at6 .ensures .0)))
+
+pub semi-octets-in-spec : {M : Type 1} → statement M
+semi-octets-in-spec =
+    tie.close
+    (tie.spec
+    semi-octet-at-requires
+    cast-year
+    semi-octet-at-requires-2
+    semi-octet-at-requires-3
+    semi-octet-at-requires-4
+    semi-octet-at-requires-5
+    semi-octet-at-requires-6
+    returns)
