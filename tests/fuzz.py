@@ -10,6 +10,7 @@ The last line says what was run; the status is 0 where all was right.
 import collections
 import fcntl
 import os
+import platform
 import random
 import select
 import signal
@@ -29,7 +30,8 @@ LINES = 400_000
 ENDS = 0, 16, 1 << 16, 1 << 31, 1 << 32, 1 << 62, 1 << 63, 1 << 64, 10 ** 9, 10 ** 18, 10 ** 19, 10 ** 20
 ODD_BYTES = b" ", b"-", b"+", b"0", b"9", b"/", b":", b"\t", b"\r", b"\0", b"\xff", b"D"
 SECONDS = 60
-KILOBYTES_APART = 1024
+# How far apart the memory of two runs may be. An emulator, where the machine is no x86-64, takes some of its own.
+KILOBYTES_APART = 1024 if platform.machine() == "x86_64" else 4096
 
 tally = collections.Counter()
 memory = []
