@@ -1,4 +1,5 @@
 pub mod Turns
 pub mod Calls
 pub mod Refusals
+pub mod Rows
 pub mod Promises

@@ -1,6 +1,6 @@
 -- The promises of specs/Promises. Assumes nothing.
 use Prim.Native.Nat.{ℕ, zero, suc, _+_, _*_, _/_, _≤_, _<_}
-use mathlib.Core.Path.{_≡_, refl, ap, _∙_}
+use mathlib.Core.Path.{_≡_, refl, sym, ap, _∙_}
 use mathlib.Core.List.{List, _++_}
 use mathlib.Core.Logic.{_⊎_, inl, inr, ⊎-elim}
 use native.Mathlib.Omega.{arith}
@@ -13,11 +13,9 @@ use Rattle.rows.proofs.Promises.{rows-are-whole}
 use Rattle.registry.specs.Words.{ruleFor}
 use Rattle.registry.specs.declared.rules.Rule.{Rule}
 use Rattle.columns.specs.Columns.{Column, rowThen, rowsOf, columnWith, decodeRow, encodeRow, decodeColumn, encodeColumn}
-use Rattle.columns.specs.Promises.{rowAt, Accepted, Ended, ColumnRefusals, Reads, ReadsBack, AllDone}
+use Rattle.columns.specs.Promises.{rowAt, Accepted, Ended, ColumnRefusals, Reads, ReadsBack, AllDone, OneAnswer}
+use Rattle.columns.proofs.Rows.{next-row}
 use Rattle.columns.proofs.Refusals.{Numbered, numbered-count, numbered-rule, decode-row, encode-row, rows-small}
-
-next-row : (w k : ℕ) (s : List ℕ) → rowAt w k (drop w s) ≡ rowAt w (suc k) s
-next-row w k s = let e : w + w * k ≡ w * suc k = omega (arith, mul-suc w k) in rw (drop-drop (w * k) w s, e) refl
 
 module _ (row : List ℕ → Answer (List ℕ)) (a b : ℕ) where
   abbrev Taken : List ℕ → ℕ → Type 0
@@ -107,3 +105,6 @@ all-done layout input old = (
       (λ k e. let w = rows-are-whole (length old) (length input) k e in omega (arith, w .instants))
       (numbered-count (length old) (length input)) (numbered-rule layout),
 )
+
+pub one-answer : OneAnswer
+one-answer c r s x y p q = (p .0 ∙ sym (q .0), p .1 ∙ sym (q .1))

@@ -5,7 +5,8 @@ use mathlib.Core.List.{List}
 use mathlib.Core.Logic.{_⊎_}
 use lib.ListN.{length, take, drop}
 use Rattle.refusal.specs.Answers.{Answer, gives, refused}
-use Rattle.columns.specs.Columns.{Column, rowsOf, decodeColumn, encodeColumn, answer}
+use Rattle.registry.specs.declared.rules.Rule.{Rule}
+use Rattle.columns.specs.Columns.{Column, decodeRow, encodeRow, rowsOf, decodeColumn, encodeColumn, answer}
 
 -- row k of a column with rows of w bytes
 abbrev pub rowAt : ℕ → ℕ → List ℕ → List ℕ
@@ -25,6 +26,16 @@ Ended =
     ((rowsOf row a b rows input old .done ≡ rows) × (rowsOf row a b rows input old .refusal ≡ 0))
     ⊎ ((rowsOf row a b rows input old .done < rows) × (row (rowAt a (rowsOf row a b rows input old .done) input) ≡ refused (rowsOf row a b rows input old .refusal)))
 
+-- row by row: a row before the count holds its result, and a row from the count on its old bytes
+abbrev pub ByRow : (List ℕ → Answer (List ℕ)) → ℕ → ℕ → Type 0
+ByRow row a b =
+    (rows : ℕ) (input old : List ℕ) (k : ℕ) → length old ≡ b * rows → k < rows →
+    (k < rowsOf row a b rows input old .done → row (rowAt a k input) ≡ gives (rowAt b k (rowsOf row a b rows input old .bytes)))
+    × (rowsOf row a b rows input old .done ≤ k → rowAt b k (rowsOf row a b rows input old .bytes) ≡ rowAt b k old)
+
+abbrev pub EachRow : Type 0
+EachRow = (rule : Rule) → ByRow (decodeRow rule) 8 12 × ByRow (encodeRow rule) 12 8
+
 -- a call refuses under 1 to 13, or tells 0
 abbrev pub ColumnRefusals : Type 0
 ColumnRefusals =
@@ -43,3 +54,10 @@ AllDone =
     (layout : ℕ) (input old : List ℕ) →
     (decodeColumn layout input old .refusal ≡ 0 → decodeColumn layout input old .done ≡ length input / 8)
     × (encodeColumn layout input old .refusal ≡ 0 → encodeColumn layout input old .done ≡ length input / 12)
+
+-- one answer: all that the contract of a call allows, of its number and of the bytes that it was lent, is equal
+abbrev pub Leaves : Column → ℕ → List ℕ → Type 0
+Leaves c r bytes = (r ≡ answer c) × (bytes ≡ c .bytes)
+
+abbrev pub OneAnswer : Type 0
+OneAnswer = (c : Column) (r s : ℕ) (x y : List ℕ) → Leaves c r x → Leaves c s y → (r ≡ s) × (x ≡ y)
