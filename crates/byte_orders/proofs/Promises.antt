@@ -1,5 +1,5 @@
 -- Proofs of what specs/Promises.antt states. Assumes nothing.
-use mathlib.Core.Path.{_≡_, refl}
+use mathlib.Core.Path.{refl}
 use Prim.Native.Nat.{_/_, _^_, _<_}
 use native.Mathlib.Omega.{arith}
 use Rattle.byte_orders.specs.Orders.{reversed, yearSwapped, ordered}

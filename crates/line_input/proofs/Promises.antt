@@ -8,9 +8,9 @@ use native.Mathlib.Omega.{arith}
 use native.Mathlib.Numerals.{add-one}
 use borrow.Author.Tests.{ltb-true, ltb-false}
 use lib.Dec.{ltb}
-use lib.ListN.{length, take, length-set, length-append}
+use lib.ListN.{length, take, length-set}
 use lib.Seq.{take-suc-set, take-all, take-at, length-take-le, append-snoc}
-use Rattle.line_input.specs.Held.{Kept, holds, lineIn, kept, keptAll}
+use Rattle.line_input.specs.Held.{Kept, lineIn, kept, keptAll}
 use Rattle.line_input.specs.Promises.{FirstBytes, OneAnswer}
 
 -- a byte more, by whether there is room for it

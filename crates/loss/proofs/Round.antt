@@ -10,7 +10,7 @@ use lib.Signed.{_≤ℤ_}
 use mir.Syntax.{w64}
 use mir.Val.{ofZ}
 use borrow.Author.Tests.{lt-ltb, leb-true}
-use Rattle.refusal.specs.Answers.{Answer, gives, refused}
+use Rattle.refusal.specs.Answers.{gives, refused}
 use Rattle.refusal.proofs.Answers.{clash, given-under}
 use Rattle.signed.proofs.Differences.{low, high, most}
 use Rattle.signed.proofs.Tests.{le-leZ, and-left, and-right}

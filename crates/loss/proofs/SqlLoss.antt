@@ -7,19 +7,16 @@ use Prim.Native.Nat.{ℕ, suc, _+_, _-_, _*_, _/_, _%_, _<_, _≤_, _^_}
 use native.Mathlib.Omega.{arith}
 use native.Mathlib.Decide.{decLt}
 use lib.Dec.{eqb, leb}
-use lib.IntN.{ℤ, pos, negsuc, subℕ, negℤ, natAbs, _+ℤ_, _-ℤ_, _*ℤ_, +ℤ-idr, +ℤ-negℤ-cancel, -ℤ-+ℤ-cancel}
-use lib.Signed.{mag, ltZ, leZ, _≤ℤ_}
+use lib.IntN.{ℤ, pos, negsuc, subℕ, negℤ, natAbs, _+ℤ_, _-ℤ_, _*ℤ_, -ℤ-+ℤ-cancel}
+use lib.Signed.{ltZ, leZ, _≤ℤ_}
 use mir.Syntax.{w64}
 use mir.Val.{SFits, ofZ}
-use borrow.Author.Tests.{lt-ltb, le-ltb, le-leb, ltb-true, leb-true, eqb-true, eqb-false, ne-eqb}
+use borrow.Author.Tests.{le-leb, leb-true, eqb-true, eqb-false, ne-eqb}
 use Rattle.refusal.specs.Answers.{gives}
 use Rattle.refusal.proofs.Answers.{clash, held, given-under}
 use Rattle.signed.specs.Floor.{floorDiv, floorRem}
-use Rattle.signed.specs.Extend.{twos}
-use Rattle.signed.proofs.Differences.{sub-ge, sub-lt, neg-plus, across, plus, times-plus, order, Difference, difference, times, less-natural, less-difference, gap, size, at-most}
+use Rattle.signed.proofs.Differences.{neg-plus, across, times-plus, difference, times, less-difference, gap, size, at-most}
 use Rattle.signed.proofs.Floor.{floor-law, floor-back}
-use Rattle.signed.proofs.Extend.{lower-half, upper-half}
-use Rattle.signed.proofs.Tests.{test-ge, and-left}
 use Rattle.instant.specs.declared.instants.Instant.{Instant}
 use Rattle.counts.specs.Sql.{sqlDay, sqlTicks, sqlDecode, nearestTick, dayWord, rolled, sqlWord, sqlEncode, exactTicks, thirds}
 use Rattle.counts.proofs.SqlParts.{read, whole, day-held, small-day}

@@ -1,5 +1,4 @@
 -- The numbers of an answer by a test, of one that hands a refusal on, and of a wider range. Assumes nothing.
-use mathlib.Core.Path.{_≡_, subst, sym}
 use mathlib.Core.Bool.{Bool, true, false, cond}
 use Prim.Native.Nat.{ℕ, _≤_}
 use native.Mathlib.Omega.{arith}

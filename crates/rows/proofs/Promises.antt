@@ -1,22 +1,21 @@
 -- Proofs of what specs/Promises.antt states. Assumes nothing.
-use Prim.Native.Nat.{ℕ, _*_, _/_, _%_, _≤_}
-use mathlib.Core.Path.{_≡_, refl, ap, _∙_}
-use mathlib.Core.Bool.{Bool, true, false, cond, _&&_}
+use Prim.Native.Nat.{ℕ, _/_, _%_}
+use mathlib.Core.Path.{_≡_, refl, ap}
+use mathlib.Core.Bool.{cond, _&&_}
 use native.Mathlib.Omega.{arith}
 use borrow.Author.Tests.{eqb-true, leb-true}
 use lib.Dec.{eqb, leb}
 use lib.ListN.{length-append}
 use lib.Seq.{take-at, drop-at, take-all}
 use mir.Syntax.{w64}
-use mir.Val.{ofZ, toZ}
+use mir.Val.{ofZ}
 use mir.Facts.{toZ-ofZ, fits-ofZ}
-use Rattle.refusal.specs.Answers.{Answer, gives, refused}
-use Rattle.refusal.proofs.Answers.{only, same-refusal, given-under, clash}
+use Rattle.refusal.specs.Answers.{gives, refused}
+use Rattle.refusal.proofs.Answers.{only, same-refusal, given-under}
 use Rattle.refusal.proofs.Ranges.{by-test}
 use Rattle.signed.proofs.Tests.{and-left, and-right}
-use Rattle.octets.specs.Octets.{numberOf, bytesOf}
+use Rattle.octets.specs.Octets.{bytesOf}
 use Rattle.octets.proofs.Promises.{many, comes-back}
-use Rattle.instant.specs.Instants.{at}
 use Rattle.rows.specs.Counted.{rowsIn}
 use Rattle.rows.specs.Answers.{readRows}
 use Rattle.rows.specs.Promises.{RowLengths, InstantComesBack, RowsAreWhole, RowRefusals, OneAnswer}

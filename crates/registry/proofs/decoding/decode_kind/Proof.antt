@@ -13,7 +13,7 @@ use Rattle.refusal.proofs.Answers.{handed-on}
 use Rattle.instant.specs.Instants.{at}
 use Rattle.instant.specs.Answers.{atNanos}
 use Rattle.instant.specs.declared.instants.Instant.{Instant}
-use Rattle.day_time.specs.Answers.{readFields, readSeconds, secondsFor}
+use Rattle.day_time.specs.Answers.{readFields, readSeconds}
 use Rattle.day_time.proofs.Answers.{small-seconds}
 use Rattle.layouts.specs.Layouts.{layoutFor}
 use Rattle.layouts.specs.declared.layouts.Layout.{Layout}

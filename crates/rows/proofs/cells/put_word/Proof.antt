@@ -1,7 +1,6 @@
 -- `put_word` meets its contract: the eight bytes of the word's bits. Assumes nothing.
 use borrow.Author.Needs.{needs}
-use mathlib.Core.Path.{sym, ap, _∙_}
-use lib.ListN.{length}
+use mathlib.Core.Path.{sym, _∙_}
 use mir.Facts.{toZ-ofZ}
 use Rattle.octets.specs.Octets.{bytesOf}
 use Rattle.rows.specs.Cells.{wordBytes}
