@@ -1,12 +1,11 @@
 -- The promises of specs/Promises. Assumes nothing.
-use Prim.Native.Nat.{ℕ, zero, suc, _+_, _*_, _/_, _≤_, _<_}
+use Prim.Native.Nat.{ℕ, zero, suc, _+_, _/_, _≤_, _<_}
 use mathlib.Core.Path.{_≡_, refl, sym, ap, _∙_}
 use mathlib.Core.List.{List, _++_}
 use mathlib.Core.Logic.{_⊎_, inl, inr, ⊎-elim}
 use native.Mathlib.Omega.{arith}
-use native.Mathlib.Nat.{mul-zero, mul-suc, le-of-suc-le-suc, not-suc-le-zero}
+use native.Mathlib.Nat.{mul-zero, le-of-suc-le-suc, not-suc-le-zero}
 use lib.ListN.{length, take, drop}
-use lib.Seq.{drop-drop}
 use Rattle.refusal.specs.Answers.{Answer, gives, refused}
 use Rattle.rows.specs.Counted.{rowsIn}
 use Rattle.rows.proofs.Promises.{rows-are-whole}

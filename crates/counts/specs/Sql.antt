@@ -11,7 +11,7 @@ use Rattle.signed.specs.Floor.{floorDiv, floorRem}
 use Rattle.signed.specs.Extend.{twos}
 use Rattle.instant.specs.Answers.{withNanos}
 use Rattle.instant.specs.declared.instants.Instant.{Instant}
-use Rattle.instant.specs.Instants.{at}
+use Rattle.instant.specs.Instants.{at, epoch1900}
 
 -- bits 32..63 are signed days from 1900-01-01, which is second -2,208,988,800, and bits 0..31 ticks of 1/300 s, cut
 -- down to a whole nanosecond; 5 for ticks of a day or more
@@ -27,7 +27,7 @@ tickNanos k = k * 1000000000 / 300
 unfoldable pub sqlDecode : ℕ → Answer Instant
 sqlDecode w =
     cond (ltb (sqlTicks w) 25920000)
-    (gives (at (sqlDay w *ℤ pos 86400 +ℤ pos (tickNanos (sqlTicks w) / 1000000000) -ℤ pos 2208988800) (tickNanos (sqlTicks w) % 1000000000)))
+    (gives (at (sqlDay w *ℤ pos 86400 +ℤ pos (tickNanos (sqlTicks w) / 1000000000) +ℤ epoch1900) (tickNanos (sqlTicks w) % 1000000000)))
     (refused 5)
 
 -- the nearest tick of r nanoseconds of a day, a half going up
@@ -47,7 +47,7 @@ unfoldable pub sqlWord : ℤ → ℕ → Answer ℤ
 sqlWord z n = rolled (floorDiv z 86400) (nearestTick (floorRem z 86400 * 1000000000 + n))
 
 unfoldable pub sqlEncode : Instant → Answer ℤ
-sqlEncode t = withNanos t (sqlWord (t .seconds +ℤ pos 2208988800) (t .nanos))
+sqlEncode t = withNanos t (sqlWord (t .seconds -ℤ epoch1900) (t .nanos))
 
 -- ---- exact time
 
@@ -57,7 +57,7 @@ exactTicks w = sqlDay (ofZ w64 w) *ℤ pos 25920000 +ℤ pos (sqlTicks (ofZ w64 
 
 -- three times the nanoseconds of an instant from 1900-01-01 on; a tick is 10,000,000 of these thirds
 abbrev pub thirds : Instant → ℤ
-thirds t = ((t .seconds +ℤ pos 2208988800) *ℤ pos 1000000000 +ℤ pos (t .nanos)) *ℤ pos 3
+thirds t = ((t .seconds -ℤ epoch1900) *ℤ pos 1000000000 +ℤ pos (t .nanos)) *ℤ pos 3
 
 -- how far a word is from an instant, in thirds of a nanosecond: 1/600 s are 5,000,000
 abbrev pub distance : Instant → ℤ → ℕ

@@ -177,4 +177,4 @@ window-size s w = small-second s (window-low s w) (window-high s w)
 
 pub epochs : Epochs
 unfolding secondsOf dayNumber daysTo daysOfMonths leap
-epochs = (simp closed-is, simp closed-is, simp closed-is, simp closed-is)
+epochs = ((simp closed-is, simp closed-is), (simp closed-is, simp closed-is), (simp closed-is, simp closed-is), (simp closed-is, simp closed-is))

@@ -3,11 +3,12 @@ use mathlib.Core.Path.{_≡_}
 use mathlib.Core.Bool.{Bool, true}
 use Prim.Native.Nat.{ℕ, _+_, _*_, _/_, _≤_, _<_, _^_}
 use lib.Dec.{ltb}
-use lib.IntN.{ℤ, pos, negℤ, _+ℤ_, _*ℤ_}
+use lib.IntN.{ℤ, pos, _+ℤ_, _*ℤ_}
 use lib.Signed.{mag, ltZ}
 use Rattle.refusal.specs.Answers.{Answer}
 use Rattle.signed.specs.Floor.{floorDiv}
-use Rattle.instant.specs.Instants.{decides}
+use Rattle.instant.specs.Instants.{decides, epoch1601, epoch1900, epoch2050}
+use Rattle.gregorian.specs.Gregorian.{dayNumber}
 use Rattle.day_time.specs.Times.{inWindow, good, secondsOf, fieldsAt}
 use Rattle.day_time.specs.Answers.{readSeconds, readFields, secondsFor, fieldsFor}
 use Rattle.day_time.specs.declared.times.Civil.{Civil}
@@ -99,9 +100,10 @@ FlooredSeconds = (s : ℤ) (k q : ℕ) → inWindow s ≡ true → 0 < k → q *
 abbrev pub newYear : ℤ → Civil
 newYear y = record { year = y; month = 1; day = 1; hour = 0; minute = 0; second = 0 }
 
+-- a year starts at a second: that of its first midnight, and of its first day's number
+abbrev pub StartsAt : ℤ → ℤ → Type 0
+StartsAt y s = (secondsOf (newYear y) ≡ s) × (dayNumber y 1 1 *ℤ pos 86400 ≡ s)
+
 abbrev pub Epochs : Type 0
 Epochs =
-    (secondsOf (newYear (pos 1601)) ≡ negℤ (pos 11644473600))
-    × (secondsOf (newYear (pos 1900)) ≡ negℤ (pos 2208988800))
-    × (secondsOf (newYear (pos 1970)) ≡ pos 0)
-    × (secondsOf (newYear (pos 2050)) ≡ pos 2524608000)
+    StartsAt (pos 1601) epoch1601 × StartsAt (pos 1900) epoch1900 × StartsAt (pos 1970) (pos 0) × StartsAt (pos 2050) epoch2050

@@ -2,13 +2,24 @@
 use mathlib.Core.Bool.{Bool, true, false, cond}
 use Prim.Native.Nat.{ℕ}
 use lib.Dec.{ltb}
-use lib.IntN.{ℤ}
+use lib.IntN.{ℤ, pos, negℤ}
 use lib.Signed.{ltZ}
 use Rattle.instant.specs.declared.instants.Instant.{Instant}
 
 -- the instant of seconds and nanoseconds
 abbrev pub at : ℤ → ℕ → Instant
 at s n = record { seconds = s; nanos = n }
+
+-- the epochs that clocks count from, 1 January of 1601, 1900 and 2050, in seconds: `Epochs` of crates/day_time/specs/Promises says that
+-- the calendar has them there
+abbrev pub epoch1601 : ℤ
+epoch1601 = negℤ (pos 11644473600)
+
+abbrev pub epoch1900 : ℤ
+epoch1900 = negℤ (pos 2208988800)
+
+abbrev pub epoch2050 : ℤ
+epoch2050 = pos 2524608000
 
 -- the first part that differs decides; equal parts leave it to the rest
 abbrev pub decides : Bool → Bool → Bool → Bool

@@ -2,14 +2,14 @@
 use mathlib.Core.Bool.{cond}
 use Prim.Native.Nat.{ℕ, _+_, _*_, _/_, _%_, _^_}
 use lib.Dec.{ltb}
-use lib.IntN.{ℤ, pos, _+ℤ_, _-ℤ_, _*ℤ_}
+use lib.IntN.{ℤ, pos, _+ℤ_, _*ℤ_}
 use lib.Signed.{ltZ}
 use mir.Syntax.{w32}
 use mir.Val.{ofZ}
 use Rattle.refusal.specs.Answers.{Answer, gives, refused}
 use Rattle.signed.specs.Floor.{floorDiv, floorRem}
 use Rattle.instant.specs.declared.instants.Instant.{Instant}
-use Rattle.instant.specs.Instants.{at}
+use Rattle.instant.specs.Instants.{at, epoch1601}
 
 -- filetime_hilo: high * 2^32 + low ticks of 100 ns from 1601-01-01, which is second -11,644,473,600; 2 where the top bit is
 -- set
@@ -19,7 +19,7 @@ ticksOf low high = high * 2 ^ 32 + low
 unfoldable pub filetimeHilo : ℕ → ℕ → Answer Instant
 filetimeHilo low high =
     cond (ltb (ticksOf low high) (2 ^ 63))
-    (gives (at (pos (ticksOf low high / 10000000) -ℤ pos 11644473600) (ticksOf low high % 10000000 * 100)))
+    (gives (at (pos (ticksOf low high / 10000000) +ℤ epoch1601) (ticksOf low high % 10000000 * 100)))
     (refused 2)
 
 -- vmsd: high * 2^32 + low microseconds from 1970-01-01, the low half read as unsigned
