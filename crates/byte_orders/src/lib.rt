@@ -1,6 +1,8 @@
 // The orders of a word's bytes. Each undoes itself.
 //
 // Every call is total: a word may have any 64 bits.
+//
+// Ported from timeglyph's src/registry.rs (Apache-2.0; see NOTICE), and changed.
 ghost use mathlib.Core.Path.{_≡_};
 ghost use Rattle.byte_orders.specs.Orders.{reversed, yearSwapped};
 

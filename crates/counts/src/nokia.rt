@@ -1,4 +1,6 @@
 // Layout 15: seconds, counted towards 2050, with the four bytes reversed.
+//
+// Ported from timeglyph's src/registry.rs (Apache-2.0; see NOTICE), and changed.
 ghost use mathlib.Core.Path.{_≡_};
 ghost use Rattle.instant.specs.Answers.{readEncoded, readDecoded};
 ghost use Rattle.counts.specs.Nokia.{nokiaDecode, nokiaEncode};

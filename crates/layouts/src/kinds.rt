@@ -1,4 +1,6 @@
 // The fourteen kinds, and the description of each.
+//
+// Ported from timeglyph's src/registry.rs (Apache-2.0; see NOTICE), and changed.
 ghost use mathlib.Core.Path.{_≡_};
 ghost use Rattle.layouts.specs.Layouts.{layoutFor};
 use crate::layouts::BCD;

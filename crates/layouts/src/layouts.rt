@@ -1,4 +1,6 @@
 // What a layout is: where its six fields stand in the word and what their numbers mean.
+//
+// Ported from timeglyph's src/registry.rs (Apache-2.0; see NOTICE), and changed.
 ghost use mathlib.Core.Path.{_≡_};
 ghost use Rattle.layouts.specs.Layouts.{pairLayout};
 use byte_orders::Order;

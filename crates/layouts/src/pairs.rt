@@ -1,4 +1,6 @@
 // The six pairs of decimal digits, counted from 0 at the low end.
+//
+// Ported from timeglyph's src/registry.rs (Apache-2.0; see NOTICE), and changed.
 ghost use mathlib.Core.Path.{_≡_};
 ghost use Rattle.layouts.specs.Pairs.{pairCount};
 

@@ -1,6 +1,8 @@
 // The three composites that come in two numbers: FILETIME in halves, VMSD, and seconds with nanoseconds.
 //
 // Every call is total: it answers the instant, or a refusal and nothing else.
+//
+// Ported from timeglyph's src/compose.rs (Apache-2.0; see NOTICE), and changed.
 ghost use mathlib.Core.Path.{_≡_};
 ghost use Rattle.instant.specs.Answers.{readDecoded};
 ghost use Rattle.number_stamps.specs.NumberStamps.{filetimeHilo, vmsdPair, unixSecNsec};

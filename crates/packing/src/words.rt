@@ -1,4 +1,6 @@
 // The word of some seconds, by the layout.
+//
+// Ported from timeglyph's src/registry.rs (Apache-2.0; see NOTICE), and changed.
 ghost use mathlib.Core.Path.{_≡_};
 ghost use Rattle.instant.specs.Answers.{readEncoded};
 ghost use Rattle.day_time.specs.Answers.{fieldsFor};

@@ -1,4 +1,6 @@
 // Decoding: the instant that a word says.
+//
+// Ported from timeglyph's src/registry.rs (Apache-2.0; see NOTICE), and changed.
 ghost use mathlib.Core.Path.{_≡_};
 ghost use mir.Syntax.{w64};
 ghost use mir.Val.{ofZ};

@@ -1,4 +1,6 @@
 // Encoding: the word of an instant.
+//
+// Ported from timeglyph's src/registry.rs (Apache-2.0; see NOTICE), and changed.
 ghost use mathlib.Core.Path.{_≡_};
 ghost use Rattle.instant.specs.Answers.{readEncoded};
 ghost use Rattle.layouts.specs.Layouts.{layoutFor};

@@ -1,4 +1,6 @@
 // The layout number picks one of sixteen rules. A caller with many rows picks the rule once.
+//
+// Ported from timeglyph's src/registry.rs (Apache-2.0; see NOTICE), and changed.
 ghost use mathlib.Core.Path.{_≡_};
 ghost use Rattle.refusal.specs.Answers.{refusalIn};
 ghost use Rattle.registry.specs.Words.{ruleFor};

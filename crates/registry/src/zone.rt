@@ -1,4 +1,6 @@
 // A zone byte, which layout 14 has besides its fields.
+//
+// Ported from timeglyph's src/registry.rs (Apache-2.0; see NOTICE), and changed.
 ghost use mathlib.Core.Path.{_≡_};
 ghost use Prim.Native.Nat.{_<_, _^_};
 ghost use lib.Signed.{mag};

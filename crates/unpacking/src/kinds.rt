@@ -1,4 +1,6 @@
 // The fields of a word, by the kind of its layout.
+//
+// Ported from timeglyph's src/registry.rs (Apache-2.0; see NOTICE), and changed.
 ghost use mathlib.Core.Path.{_≡_};
 ghost use Rattle.day_time.specs.Answers.{readFields};
 ghost use Rattle.layouts.specs.Layouts.{layoutFor};

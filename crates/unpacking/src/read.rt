@@ -1,4 +1,6 @@
 // Reading civil fields out of a word's bits, by a description.
+//
+// Ported from timeglyph's src/registry.rs (Apache-2.0; see NOTICE), and changed.
 ghost use mathlib.Core.Path.{_≡_};
 ghost use Prim.Native.Nat.{_<_, _^_};
 ghost use Rattle.day_time.specs.Answers.{readFields};

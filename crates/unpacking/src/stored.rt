@@ -1,4 +1,6 @@
 // The number at a place of a word: of bits, and of pairs of decimal digits.
+//
+// Ported from timeglyph's src/registry.rs (Apache-2.0; see NOTICE), and changed.
 ghost use mathlib.Core.Path.{_≡_};
 ghost use Prim.Native.Nat.{_/_, _%_, _^_, _<_};
 use layouts::hundreds;

@@ -1,6 +1,6 @@
 //! timeglyph's own src/registry.rs and src/compose.rs, under a stand-in for the root of their crate: the true one leans on
 //! crates that are not at hand. It has what the two take from there, with the parts that they use, and a way to a layout's
-//! codec by document 01's numbers.
+//! codec by document 01's numbers. Its types follow timeglyph's src/lib.rs (Apache-2.0; see NOTICE), and were changed.
 //!
 //! Of the linear formats there is FILETIME alone. It is decoded as the root's `Format::decode_int` decodes such a format; its
 //! epoch and unit, which the catalogue of another crate has, are those of document 01.
