@@ -25,6 +25,24 @@ use std::mem::MaybeUninit;
 /// let _ = decode_words(1, &[2_162_718], &mut room);
 /// let seed = room[0].seconds;
 /// ```
+///
+/// Nor do the other ways to a value: a field, a comparison, printing, a conversion, a reference.
+///
+/// ```compile_fail,E0616
+/// let seed = sleetrick::Slot::<sleetrick::Instant>::EMPTY.0;
+/// ```
+/// ```compile_fail,E0369
+/// let same = sleetrick::Slot::<i64>::EMPTY == sleetrick::Slot::<i64>::EMPTY;
+/// ```
+/// ```compile_fail,E0277
+/// println!("{:?}", sleetrick::Slot::<i64>::EMPTY);
+/// ```
+/// ```compile_fail,E0277
+/// let seed: i64 = sleetrick::Slot::<i64>::EMPTY.into();
+/// ```
+/// ```compile_fail,E0614
+/// let seed = *sleetrick::Slot::<i64>::EMPTY;
+/// ```
 #[derive(Clone, Copy)]
 #[repr(transparent)]
 pub struct Slot<T: Copy>(MaybeUninit<T>);

@@ -11,6 +11,7 @@ mod recorded;
 mod refusals;
 mod shapes;
 mod stamps;
+mod types;
 
 #[allow(dead_code)]
 #[path = "../../../compare/splitmix.rs"]
