@@ -16,6 +16,8 @@
 // more than 32,768 bytes; but a LAYOUT or NANOS of `decode` and `encode` that 32 bits do not hold is refused by the codec, as
 // in the line program. The last line may lack its LF.
 //
+// What can't be read or written is said on standard error, and ends the program, as in the line program.
+//
 // Nothing is proved here of what is written: the program is safe, ends, and is run on lists of recorded answers.
 mod answers;
 mod asks_byte_stamps;
@@ -27,6 +29,8 @@ mod numbers;
 mod questions;
 
 use crate::questions::answer;
+use libc::EINTR;
+use libc::EPIPE;
 use libc::STDIN_FILENO;
 use libc::STDOUT_FILENO;
 use line_input::take_line;
@@ -35,18 +39,57 @@ use texts::first;
 use texts::put;
 
 // Where the program stands: how many bytes of a line it holds, and how many of its block's bytes it has used, of how many.
+// A block of no bytes is the end of the input.
 struct Place {
     held: usize,
     used: usize,
     filled: usize,
 }
 
-// Answers a line, which is without its LF, in one write. One that fails goes unnoticed: what is missing is seen when the
-// output is compared.
-fn answer_line(line: &[u8], out: &mut [u8]) {
+// Where a block is to be read: the one before it, of at least a byte, is used up.
+fn used_up(held: usize) -> Place {
+    Place {
+        held,
+        used: 1,
+        filled: 1,
+    }
+}
+
+// Where there is nothing more to do.
+fn ended() -> Place {
+    Place {
+        held: 0,
+        used: 0,
+        filled: 0,
+    }
+}
+
+// Where a read has failed. One that a signal interrupted is made again. Any other is said and is the last, and a line that is
+// held is dropped, since the rest of what it asks is missing.
+fn read_failed(held: usize) -> Place {
+    if os::errno() == EINTR {
+        return used_up(held);
+    }
+    os::fail(b"replay: standard input");
+    ended()
+}
+
+// Writes an answer. It is false where that fails, which it has said, unless it was a reader that went away.
+fn write_out(text: &[u8]) -> bool {
+    if io::write_all(STDOUT_FILENO, text) {
+        return true;
+    }
+    if os::errno() != EPIPE {
+        os::fail(b"replay: standard output");
+    }
+    false
+}
+
+// Answers a line, which is without its LF, in one write. It is false where that fails.
+fn answer_line(line: &[u8], out: &mut [u8]) -> bool {
     let n = answer(line, out);
     let end = put(out, n, b"\n");
-    io::write_all(STDOUT_FILENO, first(out, end));
+    write_out(first(out, end))
 }
 
 // A turn takes the block's bytes up to the next LF, and reads the next block where there are none.
@@ -54,7 +97,9 @@ fn turn(held: &mut [u8], block: &mut [u8], out: &mut [u8], place: Place) -> Plac
     if place.used < place.filled {
         let taken = take_line(held, place.held, first(block, place.filled), place.used);
         if taken.whole {
-            answer_line(first(held, taken.held), out);
+            if !answer_line(first(held, taken.held), out) {
+                return ended();
+            }
             return Place {
                 held: 0,
                 used: taken.next,
@@ -68,6 +113,9 @@ fn turn(held: &mut [u8], block: &mut [u8], out: &mut [u8], place: Place) -> Plac
         };
     }
     let got = libc::read(STDIN_FILENO, block);
+    if got < 0 {
+        return read_failed(place.held);
+    }
     let k = io::count(got, block);
     Place {
         held: place.held,
@@ -79,11 +127,7 @@ fn turn(held: &mut [u8], block: &mut [u8], out: &mut [u8], place: Place) -> Plac
 // All of the input but a last line that lacks its LF, whose bytes it counts. A proved loop has to end, and nothing says
 // that the input does, so it counts its turns down, from a number that no run uses up.
 fn run(held: &mut [u8], block: &mut [u8], out: &mut [u8]) -> usize {
-    let mut place = Place {
-        held: 0,
-        used: 0,
-        filled: 0,
-    };
+    let mut place = used_up(0);
     let mut turns = u64::MAX;
     while 0 < turns {
         place = turn(held, block, out, place);

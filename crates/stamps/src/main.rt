@@ -6,9 +6,14 @@
 // A line that asks neither is `bad line`, and so is one of more than 64 bytes. The last line may lack its LF.
 //
 // It holds one line, one block of input and one of output, however long the input is. What a block asks is written before
-// the next one is read, in as few writes as it fits. Where nothing more can be written, it ends and says nothing.
+// the next one is read, in as few writes as it fits.
+//
+// What can't be read or written is said on standard error, and ends the program: the language has no exit status, and answers
+// that are cut off must not be taken for all of them. Of a reader that went away nothing is said.
 ghost use Prim.Native.Nat.{_≤_, _<_};
 ghost use lib.ListN.{length};
+use libc::EINTR;
+use libc::EPIPE;
 use libc::STDIN_FILENO;
 use libc::STDOUT_FILENO;
 use stream::feed;
@@ -21,6 +26,33 @@ struct Turned {
     turns: u64,
 }
 
+// Writes answers. It is false where that fails, which it has said.
+fn write_out(text: &[u8]) -> bool {
+    if io::write_all(STDOUT_FILENO, text) {
+        return true;
+    }
+    if os::errno() != EPIPE {
+        os::fail(b"stamps: standard output");
+    }
+    false
+}
+
+// What is left where a read has failed. One that a signal interrupted is made again. Any other is said and is the last, and a
+// line that is held is dropped, since the rest of what it asks is missing.
+fn read_failed(n: usize, turns: u64) -> Turned
+    requires { ⌜ 0 < turns ⌝ }
+    ensures { λ r. ⌜ r .turns < turns ⌝ }
+{
+    if os::errno() == EINTR {
+        return Turned {
+            held: n,
+            turns: turns - 1,
+        };
+    }
+    os::fail(b"stamps: standard input");
+    Turned { held: 0, turns: 0 }
+}
+
 // Answers the lines of a block. No turns are left where nothing more can be written, and then nothing is held.
 fn answer_block(held: &mut [u8; 65], n: usize, block: &[u8], out: &mut [u8], turns: u64) -> Turned
     requires { ⌜ 48 ≤ length (now out) ⌝ }
@@ -30,7 +62,7 @@ fn answer_block(held: &mut [u8; 65], n: usize, block: &[u8], out: &mut [u8], tur
     let mut from = 0;
     while from < block.len() {
         let fed = feed(held, len, &block[from..], out);
-        if !io::write_all(STDOUT_FILENO, first(out, fed.wrote)) {
+        if !write_out(first(out, fed.wrote)) {
             return Turned { held: 0, turns: 0 };
         }
         len = fed.held;
@@ -46,6 +78,9 @@ fn turn(held: &mut [u8; 65], n: usize, block: &mut [u8], out: &mut [u8], turns: 
     ensures { λ r. ⌜ r .turns < turns ⌝ }
 {
     let got = libc::read(STDIN_FILENO, block);
+    if got < 0 {
+        return read_failed(n, turns);
+    }
     let k = io::count(got, block);
     if k == 0 {
         return Turned { held: n, turns: 0 };
@@ -74,5 +109,5 @@ fn main() {
     let mut out = io::large_buffer();
     let n = run(&mut held, &mut block, &mut out);
     let k = last_line(&held, n, &mut out);
-    io::write_all(STDOUT_FILENO, first(&out, k));
+    write_out(first(&out, k));
 }

@@ -1,9 +1,9 @@
 // All words and all seconds of one day, in layouts where a day has few words.
 use crate::tally::Outcome;
 use crate::tally::Tally;
+use crate::tally::Total;
 use crate::tally::judged;
 use crate::tally::print_tally;
-use crate::tally::sum;
 use crate::words::comes_back;
 use instant::Instant;
 use registry::Decoded;
@@ -165,24 +165,26 @@ fn try_instants(layout: u32, marks: &[u8]) -> Tally {
     tally
 }
 
-// Prints both lines of a day, and answers how many were wrong.
-fn try_day(day: Day) -> u64 {
+// Prints both lines of a day, where the lines before were written.
+fn try_day(day: Day, before: Total) -> Total {
+    if !before.written {
+        return before;
+    }
     let layout = day.layout;
     let mut marks = no_marks();
     let words = try_words(day, &mut marks);
     let instants = try_instants(layout, &marks);
-    print_tally(layout, b"words of a day", words);
-    print_tally(layout, b"instants of a day", instants);
-    sum(words.wrong, instants.wrong)
+    let total = print_tally(layout, b"words of a day", words, before);
+    print_tally(layout, b"instants of a day", instants, total)
 }
 
 // All days.
-pub fn try_days() -> u64 {
-    let mut wrong: u64 = 0;
+pub fn try_days(before: Total) -> Total {
+    let mut total = before;
     let mut k: usize = 0;
     while k < 6 {
-        wrong = sum(wrong, try_day(DAYS[k]));
+        total = try_day(DAYS[k], total);
         k += 1;
     }
-    wrong
+    total
 }

@@ -9,7 +9,9 @@
 //                          nearest, and of two the later), and is the word of what it says
 //   words of every zone    in layout 14, every zone byte with every byte of the seconds: as the words of a day
 //
-// A line counts what was right, what the registry refused and what was wrong; the last line is what was wrong in all.
+// A line counts what was right, what the registry refused and what was wrong; the last line is what was wrong in all. Where a
+// line can't be written, that is said on standard error, and the program ends.
+//
 // Nothing is proved here of what is written: the program is safe, ends, and is run.
 mod day;
 mod steps;
@@ -19,13 +21,13 @@ mod zones;
 
 use crate::day::try_days;
 use crate::steps::try_steps;
-use crate::tally::print_wrong;
-use crate::tally::sum;
+use crate::tally::Total;
+use crate::tally::print_total;
 use crate::zones::try_zones;
 
 fn main() {
-    let days = try_days();
-    let steps = try_steps();
-    let zones = try_zones();
-    print_wrong(sum(days, sum(steps, zones)));
+    let days = try_days(Total::new());
+    let steps = try_steps(days);
+    let zones = try_zones(steps);
+    print_total(zones);
 }

@@ -1,9 +1,9 @@
 // Instants around the first and the last second of a layout, and around ends of days between.
 use crate::tally::Outcome;
 use crate::tally::Tally;
+use crate::tally::Total;
 use crate::tally::judged;
 use crate::tally::print_tally;
-use crate::tally::sum;
 use crate::words::has_word;
 use crate::words::is_plain;
 use instant::Instant;
@@ -234,20 +234,22 @@ fn try_instants(row: Row) -> Tally {
     tally
 }
 
-// Prints the line of a layout, and answers how many were wrong.
-fn try_layout(row: Row) -> u64 {
+// Prints the line of a layout, where the lines before were written.
+fn try_layout(row: Row, before: Total) -> Total {
+    if !before.written {
+        return before;
+    }
     let tally = try_instants(row);
-    print_tally(row.layout, b"instants around steps", tally);
-    tally.wrong
+    print_tally(row.layout, b"instants around steps", tally, before)
 }
 
 // All layouts.
-pub fn try_steps() -> u64 {
-    let mut wrong: u64 = 0;
+pub fn try_steps(before: Total) -> Total {
+    let mut total = before;
     let mut k: usize = 0;
     while k < 16 {
-        wrong = sum(wrong, try_layout(ROWS[k]));
+        total = try_layout(ROWS[k], total);
         k += 1;
     }
-    wrong
+    total
 }

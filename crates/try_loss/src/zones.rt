@@ -1,6 +1,7 @@
 // Layout 14: every zone byte with every byte of the seconds.
 use crate::tally::Outcome;
 use crate::tally::Tally;
+use crate::tally::Total;
 use crate::tally::print_tally;
 use crate::words::comes_back;
 use registry::Decoded;
@@ -35,9 +36,11 @@ fn try_words() -> Tally {
     tally
 }
 
-// Prints the line, and answers how many were wrong.
-pub fn try_zones() -> u64 {
+// Prints the line, where the lines before were written.
+pub fn try_zones(before: Total) -> Total {
+    if !before.written {
+        return before;
+    }
     let tally = try_words();
-    print_tally(LAYOUT, b"words of every zone", tally);
-    tally.wrong
+    print_tally(LAYOUT, b"words of every zone", tally, before)
 }

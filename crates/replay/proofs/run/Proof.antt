@@ -12,6 +12,9 @@ Inv-loop held₀ block₀ out₀ place₀ turns₀ held block out place turns =
 abbrev μ-loop : tie.MeasureT-loop
 μ-loop held₀ block₀ out₀ place₀ turns₀ held block out place turns = turns
 
+used-up-requires : tie.Need-used-up-requires Inv-loop μ-loop
+used-up-requires c κs = tt
+
 loop-holds : tie.Need-loop-holds Inv-loop μ-loop
 loop-holds c = omega arith
 
@@ -45,6 +48,7 @@ run-spec =
     (tie.spec
     Inv-loop
     μ-loop
+    used-up-requires
     loop-holds
     turn-requires
     turns-left-requires

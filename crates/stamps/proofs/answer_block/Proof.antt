@@ -34,8 +34,8 @@ feed-requires c κs = tt
 first-requires : tie.Need-first-requires Inv-loop μ-loop
 first-requires c κs = tt
 
-write-all-requires : tie.Need-write-all-requires Inv-loop μ-loop
-write-all-requires c κs = tt
+write-out-requires : tie.Need-write-out-requires Inv-loop μ-loop
+write-out-requires c κs = tt
 
 -- what a call of `feed` leaves: out is as long as it was
 long : (c : tie.After-feed Inv-loop μ-loop)
@@ -95,7 +95,7 @@ answer-block-spec =
     part-feed-end
     feed-requires
     first-requires
-    write-all-requires
+    write-out-requires
     same-length
     returns
     add-from

@@ -6,10 +6,10 @@ use Rattle.try_loss.proofs.day.try_days.Statement.{statement}
 use Rattle.try_loss.proofs.day.try_days.Tie as tie
 
 abbrev Inv-loop : tie.InvT-loop
-Inv-loop wrong₀ k₀ wrong k = k ≤ 6
+Inv-loop total₀ k₀ total k = k ≤ 6
 
 abbrev μ-loop : tie.MeasureT-loop
-μ-loop wrong₀ k₀ wrong k = 6 - k
+μ-loop total₀ k₀ total k = 6 - k
 
 loop-holds : tie.Need-loop-holds Inv-loop μ-loop
 loop-holds c = omega arith
@@ -22,9 +22,6 @@ array-copy-out-try-day c = omega arith
 
 try-day-requires : tie.Need-try-day-requires Inv-loop μ-loop
 try-day-requires c κs = search needs
-
-sum-requires : tie.Need-sum-requires Inv-loop μ-loop
-sum-requires c κs = search needs
 
 add-k : tie.Need-add-k Inv-loop μ-loop
 add-k c = omega arith
@@ -48,7 +45,6 @@ try-days-spec =
     mul-try-day
     array-copy-out-try-day
     try-day-requires
-    sum-requires
     add-k
     loop-less
     loop-again

@@ -6,10 +6,10 @@ use Rattle.try_loss.proofs.steps.try_steps.Statement.{statement}
 use Rattle.try_loss.proofs.steps.try_steps.Tie as tie
 
 abbrev Inv-loop : tie.InvT-loop
-Inv-loop wrong₀ k₀ wrong k = k ≤ 16
+Inv-loop total₀ k₀ total k = k ≤ 16
 
 abbrev μ-loop : tie.MeasureT-loop
-μ-loop wrong₀ k₀ wrong k = 16 - k
+μ-loop total₀ k₀ total k = 16 - k
 
 loop-holds : tie.Need-loop-holds Inv-loop μ-loop
 loop-holds c = omega arith
@@ -22,9 +22,6 @@ array-copy-out-try-layout c = omega arith
 
 try-layout-requires : tie.Need-try-layout-requires Inv-loop μ-loop
 try-layout-requires c κs = search needs
-
-sum-requires : tie.Need-sum-requires Inv-loop μ-loop
-sum-requires c κs = search needs
 
 add-k : tie.Need-add-k Inv-loop μ-loop
 add-k c = omega arith
@@ -48,7 +45,6 @@ try-steps-spec =
     mul-try-layout
     array-copy-out-try-layout
     try-layout-requires
-    sum-requires
     add-k
     loop-less
     loop-again
