@@ -50,3 +50,12 @@ pub fn stamps<Q>(
     }
     part
 }
+
+/// A good question for the end of a list, where it lacks its LF: the first of document 01's stamps again.
+pub fn last_line(mut stamps: Part) -> Part {
+    stamps.lines.truncate(1);
+    Part {
+        name: "a last line without its LF",
+        ..stamps
+    }
+}

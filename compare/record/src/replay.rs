@@ -4,7 +4,7 @@
 mod bad_lines;
 mod long_lines;
 
-use crate::lists::{List, Part};
+use crate::lists::{last_line, List};
 use crate::{calendar, composites, words};
 
 pub fn list() -> List {
@@ -13,20 +13,10 @@ pub fn list() -> List {
     parts.extend(composites::parts());
     parts.push(bad_lines::part());
     parts.push(long_lines::part());
-    parts.push(last_line());
+    parts.push(last_line(words::stamps_by_word()));
     List {
         seeds: vec![calendar::SEED, composites::SEED],
         parts,
         ends_in_lf: false,
-    }
-}
-
-/// A good question: the first of document 01's stamps again.
-fn last_line() -> Part {
-    let mut stamps = words::stamps_by_word();
-    stamps.lines.truncate(1);
-    Part {
-        name: "a last line without its LF",
-        lines: stamps.lines,
     }
 }

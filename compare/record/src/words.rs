@@ -2,8 +2,12 @@
 //! `e LAYOUT SECONDS NANOS`, answered by the word; a refusal is `refused N`, and a line that asks nothing is answered by
 //! `bad line`. Document 01's stamps are in the list of the program `replay` too, which asks by words.
 //!
+//! Its last line lacks its LF.
+//!
 //! The answers are those of the codecs in timeglyph's own src/registry.rs. Its errors have no numbers: `rules` has them.
 
+mod bad_lines;
+mod long_lines;
 mod random;
 mod rules;
 mod stamps;
@@ -20,13 +24,13 @@ pub fn list() -> List {
     List {
         seeds: vec![random::SEED],
         parts: parts(),
-        ends_in_lf: true,
+        ends_in_lf: false,
     }
 }
 
 fn parts() -> Vec<Part> {
     let mut numbers = SplitMix::new(random::SEED);
-    vec![
+    let mut parts = vec![
         example(),
         lists::stamps(STAMPS, stamps::stamps(), line),
         part("numbers outside", word_boundaries::numbers_outside(), line),
@@ -51,7 +55,15 @@ fn parts() -> Vec<Part> {
             each(|n| random::instants(n, &mut numbers)),
             line,
         ),
-    ]
+        bad_lines::part(),
+    ];
+    parts.extend(long_lines::parts());
+    parts.push(lists::last_line(lists::stamps(
+        STAMPS,
+        stamps::stamps(),
+        line,
+    )));
+    parts
 }
 
 /// Document 01's whole example of the line program, its last line too, which asks nothing.

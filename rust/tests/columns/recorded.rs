@@ -9,8 +9,8 @@ const FILLER: u8 = 0xAA;
 #[test]
 fn the_list_is_whole() {
     let list = recorded();
-    assert_eq!(list.left_out, 53);
-    assert_eq!(list.words.len() + list.instants.len(), 35_143 - 53);
+    assert_eq!(list.left_out, 690);
+    assert_eq!(list.words.len() + list.instants.len(), 35_829 - 690);
 }
 
 #[test]
