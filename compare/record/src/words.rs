@@ -93,7 +93,7 @@ pub fn stamps_by_word() -> Part {
     )
 }
 
-fn line_by_word(question: &Question) -> Line {
+pub fn line_by_word(question: &Question) -> Line {
     Line {
         question: question.by_word(),
         ..line(question)
