@@ -32,7 +32,7 @@ command -v cargo >/dev/null 2>&1 || not_had cargo "there is none on the path"
 
 timeglyph=${TIMEGLYPH:-../shared/docs/src}
 for text in src/registry.rs src/compose.rs; do
-    [ -f "$timeglyph/$text" ] || not_had timeglyph "there is no $timeglyph/$text"
+    [ -f "$timeglyph/$text" ] || not_had timeglyph "there is no $timeglyph/$text (the variable TIMEGLYPH says where it is)"
 done
 TIMEGLYPH=$(cd "$timeglyph" && pwd)
 export TIMEGLYPH
@@ -61,7 +61,7 @@ else
     { cargo generate-lockfile --quiet --manifest-path compare/Cargo.toml &&
         cargo update --quiet --manifest-path compare/Cargo.toml --package jiff --precise "$version" &&
         grep -A 1 '^name = "jiff"$' "$lock" | grep -qx "version = \"$version\""; } ||
-        not_had "jiff $version" "$get_jiff is missing or failed, and cargo finds none"
+        not_had "jiff $version" "$get_jiff (or what the variable GET_JIFF names) is missing or failed, and cargo finds none"
 fi
 cargo "$@" build --quiet --release \
     --manifest-path compare/Cargo.toml --package "$program" --target-dir "target/compare-$suite" || exit 1

@@ -68,7 +68,7 @@ fn window() -> Vec<Question> {
     questions
 }
 
-/// Each number that a question can be refused under, by the smallest numbers that are. (11 has no question.)
+/// Each number that a question can be refused under, by the smallest numbers that are. (11 is for columns alone.)
 fn each_refusal() -> Vec<Line> {
     let word = |question| words::line_by_word(&question);
     let composite = |question| composites::line(&question);
