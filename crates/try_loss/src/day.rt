@@ -80,7 +80,7 @@ fn no_marks() -> [u8; 86400] {
 }
 
 // A word of the day. What it says is a whole second of the day, which is marked, and comes back.
-fn try_word(layout: u32, word: i64, marks: &mut [u8]) -> Outcome {
+pub fn try_word(layout: u32, word: i64, marks: &mut [u8]) -> Outcome {
     let said = decode(layout, word);
     let Decoded::Gives(t) = said else {
         return Outcome::Refused;
@@ -125,7 +125,7 @@ fn try_words(day: Day, marks: &mut [u8]) -> Tally {
 }
 
 // An instant of the day, whose word says the latest second that is marked, not after it.
-fn try_instant(layout: u32, second: usize, nanos: u32, latest: usize) -> Outcome {
+pub fn try_instant(layout: u32, second: usize, nanos: u32, latest: usize) -> Outcome {
     let seconds = from_bits(wrapping_add_u64(MIDNIGHT, second as u64));
     let written = encode(layout, Instant::new(seconds, nanos));
     let Encoded::Gives(word) = written else {

@@ -18,11 +18,11 @@ use std::num::wrapping_add_u64;
 use std::num::wrapping_sub_u64;
 
 // The seconds between two words of a layout, and the first and the last second that it writes.
-struct Row {
-    layout: u32,
-    step: u64,
-    first: i64,
-    last: i64,
+pub struct Row {
+    pub layout: u32,
+    pub step: u64,
+    pub first: i64,
+    pub last: i64,
 }
 
 const ROWS: [Row; 16] = [
@@ -158,7 +158,7 @@ fn center(row: Row, k: u64) -> i64 {
 }
 
 // Whether u is the last whole step of the layout, not after t.
-fn is_latest(step: u64, t: Instant, u: Instant) -> bool {
+pub fn is_latest(step: u64, t: Instant, u: Instant) -> bool {
     if u.nanos != 0 {
         return false;
     }
@@ -171,7 +171,7 @@ const SQL_TO_1970: u64 = 185544796176000;
 // Whether a word of layout 16 is the tick nearest to t, or the later of two. In thirds of a nanosecond a second is
 // 3,000,000,000 and a tick 10,000,000, and t with half a tick added lies in the word's tick. As t may be a second before
 // the word's, both are taken a second later.
-fn is_nearest(t: Instant, word: i64) -> bool {
+pub fn is_nearest(t: Instant, word: i64) -> bool {
     let bits = to_bits(word);
     let day = (bits / 4294967296 + 2147483648) % 4294967296;
     let ticks = bits % 4294967296;
@@ -196,7 +196,7 @@ fn is_close(row: Row, t: Instant, word: i64, u: Instant) -> bool {
 }
 
 // The word of t is plain, says an instant that is close, and is the word of that one too.
-fn try_instant(row: Row, t: Instant) -> Outcome {
+pub fn try_instant(row: Row, t: Instant) -> Outcome {
     let layout = row.layout;
     let written = encode(layout, t);
     let Encoded::Gives(word) = written else {

@@ -73,15 +73,6 @@ pub struct Total {
     pub written: bool,
 }
 
-impl Total {
-    pub fn new() -> Self {
-        Total {
-            wrong: 0,
-            written: true,
-        }
-    }
-}
-
 // Writes a line. It is false where that fails, which it has said, unless it was a reader that went away.
 fn write_out(line: &[u8]) -> bool {
     if io::write_all(STDOUT_FILENO, line) {
@@ -116,6 +107,16 @@ fn put_tally(out: &mut [u8], at: usize, part: &[u8], tally: Tally) -> usize {
 
 // Room for the longest line, with three counts of 20 digits.
 const LINE: usize = 128;
+
+// Prints the line of what is known to be wrong, which does not count.
+pub fn print_known(tally: Tally) -> Total {
+    let mut line = [0u8; LINE];
+    let end = put_tally(&mut line, 0, b"known to be wrong", tally);
+    Total {
+        wrong: 0,
+        written: write_out(first(&line, end)),
+    }
+}
 
 // Prints the line of a part of a layout, and counts what was wrong. Where a line was not written, no other is.
 pub fn print_tally(layout: u32, part: &[u8], tally: Tally, before: Total) -> Total {

@@ -14,7 +14,7 @@ const LAYOUT: u32 = 14;
 const FIRST: u64 = 18613160454062080;
 
 // A word says a whole second, and comes back.
-fn try_word(word: i64) -> Outcome {
+pub fn try_word(word: i64) -> Outcome {
     let said = decode(LAYOUT, word);
     let Decoded::Gives(t) = said else {
         return Outcome::Refused;
