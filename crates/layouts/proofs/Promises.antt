@@ -1,7 +1,7 @@
 -- Proofs of what specs/Promises.antt states. Assumes nothing.
 use mathlib.Core.Path.{_≡_, refl, sym, subst}
 use mathlib.Core.Bool.{false}
-use mathlib.Core.Logic.{inl, inr, ⊎-elim}
+use mathlib.Core.Logic.{_⊎_, inl, inr, ⊎-elim}
 use native.Mathlib.Omega.{arith}
 use Rattle.layouts.specs.Layouts.{layoutFor}
 use Rattle.layouts.specs.Promises.{YearBounds, OneZone}
@@ -11,22 +11,25 @@ use Rattle.layouts.specs.declared.kinds.Kind.the-variants.{FatDos, ExFat
 pub year-bounds : YearBounds
 year-bounds = (λ p. (λ h. omega arith, λ h. omega arith), λ p. (λ h. omega arith, λ h. omega arith))
 
+no-other : (k : Kind) → (k ≡ Gsm) ⊎ (layoutFor k .zoned ≡ false)
+no-other FatDos = inr refl
+no-other ExFat = inr refl
+no-other Dttm = inr refl
+no-other BitDate = inr refl
+no-other BitDec = inr refl
+no-other Bcd = inr refl
+no-other Moto = inr refl
+no-other Symantec = inr refl
+no-other Dvr = inr refl
+no-other Ns40 = inr refl
+no-other Ns40Le = inr refl
+no-other LogTime = inr refl
+no-other SemiOctet = inr refl
+no-other Gsm = inl refl
+
 pub one-zone : OneZone
-one-zone FatDos = inr refl
-one-zone ExFat = inr refl
-one-zone Dttm = inr refl
-one-zone BitDate = inr refl
-one-zone BitDec = inr refl
-one-zone Bcd = inr refl
-one-zone Moto = inr refl
-one-zone Symantec = inr refl
-one-zone Dvr = inr refl
-one-zone Ns40 = inr refl
-one-zone Ns40Le = inr refl
-one-zone LogTime = inr refl
-one-zone SemiOctet = inr refl
-one-zone Gsm = inl refl
+one-zone = (refl, no-other)
 
 -- so what holds of 14, and of every kind without a zone, holds of every kind
 pub by-zone : (P : Kind → Type 0) → P Gsm → ((k : Kind) → layoutFor k .zoned ≡ false → P k) → (k : Kind) → P k
-by-zone P g u k = ⊎-elim (λ e. subst P (sym e) g) (λ z. u k z) (one-zone k)
+by-zone P g u k = ⊎-elim (λ e. subst P (sym e) g) (λ z. u k z) (no-other k)

@@ -1,6 +1,6 @@
 -- What holds of the descriptions. Each is proved in proofs/Promises.antt.
 use mathlib.Core.Path.{_≡_}
-use mathlib.Core.Bool.{false}
+use mathlib.Core.Bool.{true, false}
 use mathlib.Core.Logic.{_↔_, _⊎_}
 use Prim.Native.Nat.{ℕ, _/_, _^_, _≤_, _<_}
 use Rattle.layouts.specs.Layouts.{layoutFor}
@@ -14,4 +14,4 @@ YearBounds = ((p : ℕ) → (p / 2 ^ 20 ≤ 32767) ↔ (p < 2 ^ 35)) × ((p : �
 
 -- 14 alone has a zone
 abbrev pub OneZone : Type 0
-OneZone = (k : Kind) → (k ≡ Gsm) ⊎ (layoutFor k .zoned ≡ false)
+OneZone = (layoutFor Gsm .zoned ≡ true) × ((k : Kind) → (k ≡ Gsm) ⊎ (layoutFor k .zoned ≡ false))
