@@ -11,8 +11,8 @@ abbrev pub ZoneLeavesTheYears : Type 0
 ZoneLeavesTheYears =
     (decodeFor 14 0x00101000000001 ≡ gives (at (pos 946675800) 0)) × (encodeFor 14 (at (pos 946675800) 0) ≡ refused 7)
 
--- the last half tick before the first day of layout 16 rolls into it and is written; the one after its last day rolls out
--- of it and is refused
+-- the last half tick before the first day of layout 16 rolls into that day and is written; the last half tick of its last
+-- day rolls out of the days and is refused
 abbrev pub RollAtTheEnds : Type 0
 RollAtTheEnds =
     (encodeFor 16 (at (negℤ (pos 185544796176001)) 999000000) ≡ gives (negℤ (pos 9223372036854775808)))

@@ -60,7 +60,7 @@ NanosFirst = (r : Rule) (t : Instant) → 999999999 < t .nanos → encodeBy r t 
 
 -- ---- one answer
 
--- whatever the definition says, all that the contract of `pick` allows as its reading is equal. The other calls answer what
--- `instant` has, and so does its promise
+-- whatever the definition says, all that the contract of `pick` allows as its reading is equal. The other calls answer a
+-- `Decoded` or an `Encoded`, of which `OneAnswer` of `instant` says the same
 abbrev pub OneAnswer : Type 0
 OneAnswer = (x : Answer Rule) (a b : Picked) → readPicked a ≡ x → readPicked b ≡ x → a ≡ b

@@ -30,7 +30,7 @@ pub record Whole (n m rows : ℕ) : Type 0 where
 abbrev pub RowsAreWhole : Type 0
 RowsAreWhole = (n m rows : ℕ) → rowsIn n m ≡ gives rows → Whole n m rows
 
--- columns are refused under 11 or 13
+-- columns are refused under 11 to 13
 abbrev pub RowRefusals : Type 0
 RowRefusals = (n m : ℕ) → RefusedWithin 11 13 (rowsIn n m)
 

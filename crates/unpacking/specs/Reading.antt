@@ -21,7 +21,7 @@ stored d f p = p / base d ^ f .place % base d ^ f .width
 abbrev pub semi : ℕ → ℕ
 semi n = n % 16 * 10 + n / 16
 
--- -1 in a field that is stored less k: k - 1 where k is a year; where k is 0 it is 255, which is no month, day, hour,
+-- -1 in a field that is stored less k: k - 1, as in the year; where k is 0 it is 255, which is no month, day, hour,
 -- minute or second
 abbrev pub minusOne : ℕ → ℕ
 minusOne k = cond (eqb k 0) 255 (k - 1)
