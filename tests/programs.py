@@ -2,8 +2,8 @@
 """programs.py [PROGRAM]..: runs the programs where reading and writing go wrong, and where there is much of both.
 
 No proof says what a program reads and writes. The programs are those of target/bin, by tools/run-program: `stamps` and
-`replay`, which answer lines, and `try_loss`, which reads nothing. The status of a program says nothing, since the language has none:
-what has failed stands on standard error. The last line says what was run; the status is 0 where all was right.
+`replay`, which answer lines, and `try_loss`, which reads nothing. What fails they say on standard error, since the language has
+no exit status. The last line says what was run; the status is 0 where all was right.
 """
 
 import contextlib
@@ -28,7 +28,7 @@ PROGRAMS = (*GOOD, "try_loss")
 IN, OUT = "standard input", "standard output"
 # More blocks, of a block's size and of a few bytes, than any count that somebody might take for endless.
 LINES = 600_000
-PIECES = 30_000
+PIECES = 70_000
 
 ran = []
 
@@ -212,6 +212,16 @@ def read_fails_later(name):
     need(left.wrote == (answer + b"\n") * 3, "not the answers to what was read whole", left)
 
 
+def stop_and_go(program):
+    """A few times, each while the program waits."""
+    for _ in range(3):
+        time.sleep(0.1)
+        program.send_signal(signal.SIGSTOP)
+        time.sleep(0.1)
+        program.send_signal(signal.SIGCONT)
+    time.sleep(0.1)
+
+
 def interrupted(name):
     """A read that a signal interrupts is made again. Where a time is set for it, a stop and a going on interrupt a read."""
     question, answer = GOOD[name]
@@ -222,17 +232,14 @@ def interrupted(name):
         near.close()
         half = len(question) // 2
         wrote = b""
-        for _ in range(3):
-            far.sendall(question + b"\n" + question[:half])
-            wrote += program.stdout.readline()
+        # A program that has ended takes nothing more.
+        with contextlib.suppress(BrokenPipeError, ConnectionResetError):
             for _ in range(3):
-                time.sleep(0.1)
-                program.send_signal(signal.SIGSTOP)
-                time.sleep(0.1)
-                program.send_signal(signal.SIGCONT)
-            time.sleep(0.1)
-            far.sendall(question[half:] + b"\n")
-            wrote += program.stdout.readline()
+                far.sendall(question + b"\n" + question[:half])
+                wrote += program.stdout.readline()
+                stop_and_go(program)
+                far.sendall(question[half:] + b"\n")
+                wrote += program.stdout.readline()
         far.close()
         wrote += program.stdout.read()
         program.stdout.close()
@@ -246,12 +253,13 @@ def without_lf(name):
     question, answer = GOOD[name]
     for lines in range(3):
         data = b"\n".join([question] * lines)
-        for last, extra in ((data, b""), (data + b"\n" if lines else b"", b""), (data + b"\nx" if lines else b"x", b"bad line\n")):
-            with holding(last) as given:
-                left = run(name, given)
-            need(left.wrote == (answer + b"\n") * lines + extra, f"not the answers to {last!r}", left)
+        ended = (question + b"\n") * lines
+        for given, more in ((data, b""), (ended, b""), (ended + b"x", b"bad line\n")):
+            with holding(given) as file:
+                left = run(name, file)
+            need(left.wrote == (answer + b"\n") * lines + more, f"not the answers to {given!r}", left)
             needs_quiet(left, name)
-            need(piped(name, [last]) == left.wrote, f"not the answers to {last!r} in a pipe")
+            need(piped(name, [given]) == left.wrote, f"not the answers to {given!r} in a pipe")
 
 
 def bad_lines(name):

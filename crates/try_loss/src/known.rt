@@ -31,7 +31,7 @@ const SECOND: i64 = 194772471906604;
 
 const TWO_SECONDS: i64 = 194772471906904;
 
-// A word one off; one that is not plain, of an instant that lies half a minute, or a nanosecond, past what its word says; and an
+// A word one off; one that is not plain, of an instant that lies half a minute, or a nanosecond, past what its word says; an
 // instant that has no word.
 fn try_words(before: Tally) -> Tally {
     let midnight = Instant::at_second(MIDNIGHT);

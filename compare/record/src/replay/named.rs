@@ -1,6 +1,6 @@
 //! Words and instants by name. A fault that the definitions share with the code is proved, and only an answer from elsewhere
-//! shows it; these are where such a fault could hide: a word that reads the same in another order of its bytes, or a range, a zone
-//! or a window that is tried only in its middle.
+//! shows it. It would hide behind words that read the same in another order of their bytes, and behind a range, a zone or a
+//! window that is tried only in its middle; these are the others.
 
 use crate::lists::{part, Line, Part};
 use crate::{composites, words};
