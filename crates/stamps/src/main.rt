@@ -26,7 +26,7 @@ struct Turned {
     turns: u64,
 }
 
-// Writes answers. It is false where that fails, which it has said.
+// Writes answers. It is false where that fails, which it has said, unless it was a reader that went away.
 fn write_out(text: &[u8]) -> bool {
     if io::write_all(STDOUT_FILENO, text) {
         return true;
