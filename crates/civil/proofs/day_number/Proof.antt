@@ -12,12 +12,6 @@ use Rattle.gregorian.specs.Gregorian.{epochDay}
 use Rattle.civil.proofs.day_number.Statement.{statement}
 use Rattle.civil.proofs.day_number.Tie as tie
 
-raised-requires : tie.Need-raised-requires
-raised-requires c κs = search needs
-
-cast-result : tie.Need-cast-result
-cast-result c = search needs
-
 difference : (c : tie.After-raised) → Lowers w64 (c .raised .result / 86400) epochDay
 difference c = lowers w64 (c .raised .result / 86400) epochDay (omega (arith, c .raised .ensures .1)) (omega arith)
 
@@ -30,4 +24,4 @@ returns c =
     difference c .is ∙ ap (λ n. subℕ (n / 86400) epochDay) (rw (toZ-ofZ (s .fits .seconds)) at (c .raised .ensures .0)) ∙ above-day (s .args .seconds) (s .pre)
 
 pub day-number-spec : {M : Type 1} → statement M
-day-number-spec = tie.close (tie.spec raised-requires cast-result sub-result returns)
+day-number-spec = tie.close (tie.spec (λ c κs. search needs) (λ c. search needs) sub-result returns)

@@ -28,22 +28,10 @@ good c =
 day-number-requires : tie.Need-day-number-requires
 day-number-requires c κs = rw (toZ-ofZ (c .before .before .fits .seconds)) (good c)
 
-date-of-requires : tie.Need-date-of-requires
-date-of-requires c κs = search needs
-
-enum-known-found : tie.Need-enum-known-found
-enum-known-found c = search needs
-
-enum-told : tie.Need-enum-told
-enum-told c = search needs
-
 answered : (c : tie.After-date-of) → readDated (c .date-of .result) ≡ dateFor (floorDiv (c .before .before .before .before .args .seconds) 86400)
 answered c =
     let n = toZ-ofZ {w = w64} (record { sfits = c .before .day-number .ok }) ∙ (rw (toZ-ofZ (c .before .before .before .before .fits .seconds)) at (c .before .day-number .ensures)) in
     c .date-of .ensures ∙ ap dateFor n
-
-refusal-requires : tie.Need-refusal-requires
-refusal-requires c κs = search needs
 
 -- every second of the window has a date
 returns-3 : tie.Need-returns-3
@@ -55,9 +43,6 @@ returns-3 c =
 passed-requires : tie.Need-passed-requires
 passed-requires c κs =
     let e = c .before .before .before .before .before in rw (toZ-ofZ (e .before .before .fits .seconds)) (good e)
-
-on-date-requires : tie.Need-on-date-requires
-on-date-requires c κs = search needs
 
 returns-4 : tie.Need-returns-4
 returns-4 c =
@@ -74,11 +59,11 @@ fields-of-spec =
     returns
     returns-2
     day-number-requires
-    date-of-requires
-    enum-known-found
-    enum-told
-    refusal-requires
+    (λ c κs. search needs)
+    (λ c. search needs)
+    (λ c. search needs)
+    (λ c κs. search needs)
     returns-3
     passed-requires
-    on-date-requires
+    (λ c κs. search needs)
     returns-4)

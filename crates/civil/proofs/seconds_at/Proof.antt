@@ -12,20 +12,8 @@ use Rattle.day_time.proofs.Days.{no-day, some-day, day-small}
 use Rattle.civil.proofs.seconds_at.Statement.{statement}
 use Rattle.civil.proofs.seconds_at.Tie as tie
 
-day-of-requires : tie.Need-day-of-requires
-day-of-requires c κs = search needs
-
-enum-known-found : tie.Need-enum-known-found
-enum-known-found c = search needs
-
-enum-told : tie.Need-enum-told
-enum-told c = search needs
-
 abbrev time : tie.Start → Civil
 time s = record { year = s .args .year; month = s .args .month; day = s .args .day; hour = s .args .hour; minute = s .args .minute; second = s .args .second }
-
-refusal-requires : tie.Need-refusal-requires
-refusal-requires c κs = search needs
 
 returns : tie.Need-returns
 returns c =
@@ -48,9 +36,6 @@ cast-seconds-on c =
     let s = c .before .before .before .before in
     rw (read c) (day-small (s .args .year) (s .args .month) (s .args .day) (given c))
 
-seconds-on-requires : tie.Need-seconds-on-requires
-seconds-on-requires c κs = search needs
-
 returns-2 : tie.Need-returns-2
 returns-2 c =
     let s = c .before .before .before .before .before in
@@ -60,4 +45,4 @@ returns-2 c =
 pub seconds-at-spec : {M : Type 1} → statement M
 seconds-at-spec =
     tie.close
-    (tie.spec day-of-requires enum-known-found enum-told refusal-requires returns cast-seconds-on seconds-on-requires returns-2)
+    (tie.spec (λ c κs. search needs) (λ c. search needs) (λ c. search needs) (λ c κs. search needs) returns cast-seconds-on (λ c κs. search needs) returns-2)

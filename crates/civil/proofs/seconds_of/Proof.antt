@@ -6,9 +6,6 @@ use mir.Facts.{toZ-ofZ}
 use Rattle.civil.proofs.seconds_of.Statement.{statement}
 use Rattle.civil.proofs.seconds_of.Tie as tie
 
-seconds-at-requires : tie.Need-seconds-at-requires
-seconds-at-requires c κs = search needs
-
 returns : tie.Need-returns
 returns c =
     let s = c .before .before .args in
@@ -16,4 +13,4 @@ returns c =
     rw (toZ-ofZ y) at (c .seconds-at .ensures)
 
 pub seconds-of-spec : {M : Type 1} → statement M
-seconds-of-spec = tie.close (tie.spec seconds-at-requires returns)
+seconds-of-spec = tie.close (tie.spec (λ c κs. search needs) returns)

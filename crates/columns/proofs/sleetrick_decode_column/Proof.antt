@@ -14,21 +14,6 @@ use Rattle.columns.proofs.Calls.{by-count, by-layout, by-rows}
 use Rattle.columns.proofs.sleetrick_decode_column.Statement.{statement}
 use Rattle.columns.proofs.sleetrick_decode_column.Tie as tie
 
-rows-in-requires : tie.Need-rows-in-requires
-rows-in-requires c κs = search needs
-
-enum-known-counted : tie.Need-enum-known-counted
-enum-known-counted c = search needs
-
-enum-told : tie.Need-enum-told
-enum-told c = search needs
-
-refusal-requires : tie.Need-refusal-requires
-refusal-requires c κs = search needs
-
-cast-result : tie.Need-cast-result
-cast-result c = search needs
-
 returns : tie.Need-returns
 unfolding decodeColumn
 returns c =
@@ -36,24 +21,9 @@ returns c =
     let e = k .before .before .before .rows-in .ensures in
     by-count decodeRow 8 12 _ _ _ (sym e ∙ ap readRows (k .before .enum-told .given .1)) (k .refusal .ensures ∙ ap refusalIn e)
 
-pick-requires : tie.Need-pick-requires
-pick-requires c κs = search needs
-
 -- the rows that were counted
 counted : (c : tie.After-pick) → let s = c .before .before .before .before .before .before .before .args in rowsIn (length (now (s .words))) (length (now (s .instants))) ≡ gives (c .before .before .counted .given .0 .0)
 counted c = sym (c .before .before .before .before .rows-in .ensures) ∙ ap readRows (c .before .before .counted .given .1)
-
-enum-known-picked : tie.Need-enum-known-picked
-enum-known-picked c = search needs
-
-enum-told-2 : tie.Need-enum-told-2
-enum-told-2 c = search needs
-
-refusal-requires-2 : tie.Need-refusal-requires-2
-refusal-requires-2 c κs = search needs
-
-cast-result-2 : tie.Need-cast-result-2
-cast-result-2 c = search needs
 
 returns-2 : tie.Need-returns-2
 unfolding decodeColumn
@@ -67,9 +37,6 @@ decode-rows-requires c κs =
     let w = rows-are-whole _ _ _ (counted (c .before .before .before .before)) in
     (w .few, (w .words, w .instants))
 
-same-length : tie.Need-same-length
-same-length c = search needs
-
 returns-3 : tie.Need-returns-3
 unfolding decodeColumn
 returns-3 c =
@@ -81,18 +48,18 @@ pub sleetrick-decode-column-spec : {M : Type 1} → statement M
 sleetrick-decode-column-spec =
     tie.close
     (tie.spec
-    rows-in-requires
-    enum-known-counted
-    enum-told
-    refusal-requires
-    cast-result
+    (λ c κs. search needs)
+    (λ c. search needs)
+    (λ c. search needs)
+    (λ c κs. search needs)
+    (λ c. search needs)
     returns
-    pick-requires
-    enum-known-picked
-    enum-told-2
-    refusal-requires-2
-    cast-result-2
+    (λ c κs. search needs)
+    (λ c. search needs)
+    (λ c. search needs)
+    (λ c κs. search needs)
+    (λ c. search needs)
     returns-2
     decode-rows-requires
-    same-length
+    (λ c. search needs)
     returns-3)

@@ -10,17 +10,11 @@ use Rattle.month_lengths.proofs.length_of_month.Tie as tie
 returns : tie.Need-returns
 returns c = sym (no-month (c .before .args .leap) (c .before .args .month) (omega arith))
 
-cast-result : tie.Need-cast-result
-cast-result c = search needs
-
 mul-result : tie.Need-mul-result
 mul-result c = omega (arith, byte-most (c .before .args .leap))
 
 index-1-result : tie.Need-index-1-result
 index-1-result c = byte-most (c .before .args .leap)
-
-index-2-result : tie.Need-index-2-result
-index-2-result c = search needs
 
 cast-result-2 : tie.Need-cast-result-2
 cast-result-2 c =
@@ -32,4 +26,4 @@ returns-2 c = row-is (c .before .before .args .leap) (c .before .before .args .m
 
 pub length-of-month-spec : {M : Type 1} → statement M
 length-of-month-spec =
-    tie.close (tie.spec returns cast-result mul-result index-1-result index-2-result cast-result-2 returns-2)
+    tie.close (tie.spec returns (λ c. search needs) mul-result index-1-result (λ c. search needs) cast-result-2 returns-2)

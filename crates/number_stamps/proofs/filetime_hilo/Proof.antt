@@ -17,12 +17,6 @@ use Rattle.number_stamps.proofs.filetime_hilo.Tie as tie
 returns : tie.Need-returns
 returns c = sym (top-bit (c .before .args .low) (c .before .args .high) (c .if1 .taken))
 
-mul-ticks : tie.Need-mul-ticks
-mul-ticks c = search needs
-
-add-ticks : tie.Need-add-ticks
-add-ticks c = search needs
-
 cast-seconds : tie.Need-cast-seconds
 cast-seconds c = search needs
 
@@ -36,15 +30,6 @@ fit c = less-fits (pos (ticksOf (c .before .args .low) (c .before .args .high) /
 add-seconds : tie.Need-add-seconds
 add-seconds c = rw (counted c) (fit c)
 
-mul-nanos : tie.Need-mul-nanos
-mul-nanos c = search needs
-
-cast-nanos : tie.Need-cast-nanos
-cast-nanos c = search needs
-
-new-requires : tie.Need-new-requires
-new-requires c κs = search needs
-
 returns-2 : tie.Need-returns-2
 returns-2 c =
     let d = c .before in
@@ -56,11 +41,11 @@ filetime-hilo-spec =
     tie.close
     (tie.spec
     returns
-    mul-ticks
-    add-ticks
+    (λ c. search needs)
+    (λ c. search needs)
     cast-seconds
     add-seconds
-    mul-nanos
-    cast-nanos
-    new-requires
+    (λ c. search needs)
+    (λ c. search needs)
+    (λ c κs. search needs)
     returns-2)

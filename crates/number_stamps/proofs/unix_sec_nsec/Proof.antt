@@ -39,9 +39,6 @@ add-new c =
     let s = c .before in
     rw (carry s, toZ-ofZ (s .fits .seconds)) (carry-fits (s .args .seconds) (s .args .nanos) (omega arith) (s .fits .seconds) (left c))
 
-new-requires : tie.Need-new-requires
-new-requires c κs = search needs
-
 returns-2 : tie.Need-returns-2
 returns-2 c =
     let d = c .before in
@@ -51,4 +48,4 @@ returns-2 c =
     ∙ sym (carries (s .args .seconds) (s .args .nanos) (omega arith) (s .fits .seconds) (left d))
 
 pub unix-sec-nsec-spec : {M : Type 1} → statement M
-unix-sec-nsec-spec = tie.close (tie.spec cast-carry sub-if1 returns add-new new-requires returns-2)
+unix-sec-nsec-spec = tie.close (tie.spec cast-carry sub-if1 returns add-new (λ c κs. search needs) returns-2)

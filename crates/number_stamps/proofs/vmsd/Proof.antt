@@ -18,9 +18,6 @@ use Rattle.number_stamps.proofs.vmsd.Tie as tie
 cast-to-bits : tie.Need-cast-to-bits
 cast-to-bits c = rw (toZ-ofZ (c .fits .low)) (wider (c .args .low) (c .fits .low))
 
-to-bits-requires : tie.Need-to-bits-requires
-to-bits-requires c κs = search needs
-
 cast-unsigned : tie.Need-cast-unsigned
 cast-unsigned c = search needs
 
@@ -49,12 +46,6 @@ add-micros : tie.Need-add-micros
 add-micros c =
     rw (high-half c, low-is c) (micros c .1)
 
-div-floor-requires : tie.Need-div-floor-requires
-div-floor-requires c κs = search needs
-
-rem-floor-requires : tie.Need-rem-floor-requires
-rem-floor-requires c κs = search needs
-
 rest-is : (c : tie.After-rem-floor) → let s = c .before .before .before in c .rem-floor .result ≡ floorRem (microsOf (s .args .high) (s .args .low)) 1000000
 rest-is c = let b = c .before .before in rw (high-half b, low-is b, toZ-ofZ (micros b .1)) at (c .rem-floor .ensures)
 
@@ -66,9 +57,6 @@ mul-nanos c = record { fits = omega (arith, rest-small c) }
 
 cast-nanos : tie.Need-cast-nanos
 cast-nanos c = record { fits = omega (arith, rest-small c) }
-
-new-requires : tie.Need-new-requires
-new-requires c κs = search needs
 
 returns : tie.Need-returns
 unfolding vmsdPair
@@ -84,14 +72,14 @@ vmsd-spec =
     tie.close
     (tie.spec
     cast-to-bits
-    to-bits-requires
+    (λ c κs. search needs)
     cast-unsigned
     cast-micros
     mul-micros
     add-micros
-    div-floor-requires
-    rem-floor-requires
+    (λ c κs. search needs)
+    (λ c κs. search needs)
     mul-nanos
     cast-nanos
-    new-requires
+    (λ c κs. search needs)
     returns)

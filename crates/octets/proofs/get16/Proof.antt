@@ -6,15 +6,6 @@ use Rattle.octets.proofs.Parts.{two}
 use Rattle.octets.proofs.get16.Statement.{statement}
 use Rattle.octets.proofs.get16.Tie as tie
 
-byte-at-requires : tie.Need-byte-at-requires
-byte-at-requires c κs = search needs
-
-byte-at-requires-2 : tie.Need-byte-at-requires-2
-byte-at-requires-2 c κs = search needs
-
-join-two-requires : tie.Need-join-two-requires
-join-two-requires c κs = search needs
-
 returns : tie.Need-returns
 returns c =
     let c2 = c .before in
@@ -22,4 +13,4 @@ returns c =
     omega (arith, c .join-two .ensures, c1 .byte-at .ensures, c2 .byte-at2 .ensures, two (now (c1 .before .before .args .s)))
 
 pub get16-spec : {M : Type 1} → statement M
-get16-spec = tie.close (tie.spec byte-at-requires byte-at-requires-2 join-two-requires returns)
+get16-spec = tie.close (tie.spec (λ c κs. search needs) (λ c κs. search needs) (λ c κs. search needs) returns)

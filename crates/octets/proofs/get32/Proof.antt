@@ -6,26 +6,8 @@ use Rattle.octets.proofs.Parts.{four}
 use Rattle.octets.proofs.get32.Statement.{statement}
 use Rattle.octets.proofs.get32.Tie as tie
 
-four-of-requires : tie.Need-four-of-requires
-four-of-requires c κs = search needs
-
 returns : tie.Need-returns
 returns c = search needs
-
-byte-at-requires : tie.Need-byte-at-requires
-byte-at-requires c κs = search needs
-
-byte-at-requires-2 : tie.Need-byte-at-requires-2
-byte-at-requires-2 c κs = search needs
-
-byte-at-requires-3 : tie.Need-byte-at-requires-3
-byte-at-requires-3 c κs = search needs
-
-byte-at-requires-4 : tie.Need-byte-at-requires-4
-byte-at-requires-4 c κs = search needs
-
-join-four-requires : tie.Need-join-four-requires
-join-four-requires c κs = search needs
 
 returns-2 : tie.Need-returns-2
 returns-2 c =
@@ -39,11 +21,11 @@ pub get32-spec : {M : Type 1} → statement M
 get32-spec =
     tie.close
     (tie.spec
-    four-of-requires
+    (λ c κs. search needs)
     returns
-    byte-at-requires
-    byte-at-requires-2
-    byte-at-requires-3
-    byte-at-requires-4
-    join-four-requires
+    (λ c κs. search needs)
+    (λ c κs. search needs)
+    (λ c κs. search needs)
+    (λ c κs. search needs)
+    (λ c κs. search needs)
     returns-2)

@@ -6,38 +6,8 @@ use Rattle.octets.proofs.Parts.{eight}
 use Rattle.octets.proofs.get64.Statement.{statement}
 use Rattle.octets.proofs.get64.Tie as tie
 
-eight-of-requires : tie.Need-eight-of-requires
-eight-of-requires c κs = search needs
-
 returns : tie.Need-returns
 returns c = search needs
-
-byte-at-requires : tie.Need-byte-at-requires
-byte-at-requires c κs = search needs
-
-byte-at-requires-2 : tie.Need-byte-at-requires-2
-byte-at-requires-2 c κs = search needs
-
-byte-at-requires-3 : tie.Need-byte-at-requires-3
-byte-at-requires-3 c κs = search needs
-
-byte-at-requires-4 : tie.Need-byte-at-requires-4
-byte-at-requires-4 c κs = search needs
-
-byte-at-requires-5 : tie.Need-byte-at-requires-5
-byte-at-requires-5 c κs = search needs
-
-byte-at-requires-6 : tie.Need-byte-at-requires-6
-byte-at-requires-6 c κs = search needs
-
-byte-at-requires-7 : tie.Need-byte-at-requires-7
-byte-at-requires-7 c κs = search needs
-
-byte-at-requires-8 : tie.Need-byte-at-requires-8
-byte-at-requires-8 c κs = search needs
-
-join-eight-requires : tie.Need-join-eight-requires
-join-eight-requires c κs = search needs
 
 returns-2 : tie.Need-returns-2
 returns-2 c =
@@ -55,15 +25,15 @@ pub get64-spec : {M : Type 1} → statement M
 get64-spec =
     tie.close
     (tie.spec
-    eight-of-requires
+    (λ c κs. search needs)
     returns
-    byte-at-requires
-    byte-at-requires-2
-    byte-at-requires-3
-    byte-at-requires-4
-    byte-at-requires-5
-    byte-at-requires-6
-    byte-at-requires-7
-    byte-at-requires-8
-    join-eight-requires
+    (λ c κs. search needs)
+    (λ c κs. search needs)
+    (λ c κs. search needs)
+    (λ c κs. search needs)
+    (λ c κs. search needs)
+    (λ c κs. search needs)
+    (λ c κs. search needs)
+    (λ c κs. search needs)
+    (λ c κs. search needs)
     returns-2)

@@ -18,12 +18,6 @@ use Rattle.signed.proofs.div_floor.Tie as tie
 returns : tie.Need-returns
 returns c = rw (eq-eqb (c .before .args .d) 0 (c .if1 .taken))
 
-size-requires : tie.Need-size-requires
-size-requires c κs = search needs
-
-div-q : tie.Need-div-q
-div-q c = search needs
-
 -- n, of x that is n or -(n + 1)
 sized : (c : tie.After-size) → c .size .result ≡ mag (c .before .before .args .x)
 sized c = rw (toZ-ofZ (c .before .before .fits .x)) at (c .size .ensures)
@@ -31,9 +25,6 @@ sized c = rw (toZ-ofZ (c .before .before .fits .x)) at (c .size .ensures)
 cast-q : tie.Need-cast-q
 cast-q c =
     record { sfits = omega (arith, c .before .before .fits .x .sfits, sized c, div-le-self (c .size .result) (c .before .before .args .d)) }
-
-flip-requires : tie.Need-flip-requires
-flip-requires c κs = search needs
 
 -- the quotient, as the machine reads it back
 quotient-is : (c : tie.After-size) → toZ w64 (c .size .result / c .before .before .args .d) ≡ pos (mag (c .before .before .args .x) / c .before .before .args .d)
@@ -55,4 +46,4 @@ returns-3 c =
 
 pub div-floor-spec : {M : Type 1} → statement M
 div-floor-spec =
-    tie.close (tie.spec returns size-requires div-q cast-q flip-requires returns-2 returns-3)
+    tie.close (tie.spec returns (λ c κs. search needs) (λ c. search needs) cast-q (λ c κs. search needs) returns-2 returns-3)

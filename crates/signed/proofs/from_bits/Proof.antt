@@ -10,17 +10,8 @@ use Rattle.signed.specs.Floor.{flipped}
 use Rattle.signed.proofs.from_bits.Statement.{statement}
 use Rattle.signed.proofs.from_bits.Tie as tie
 
-cast-result : tie.Need-cast-result
-cast-result c = search needs
-
-sub-flip : tie.Need-sub-flip
-sub-flip c = search needs
-
 cast-flip : tie.Need-cast-flip
 cast-flip c = search needs
-
-flip-requires : tie.Need-flip-requires
-flip-requires c κs = search needs
 
 returns : tie.Need-returns
 returns c = search needs
@@ -34,4 +25,4 @@ returns-2 c =
 
 pub from-bits-spec : {M : Type 1} → statement M
 from-bits-spec =
-    tie.close (tie.spec cast-result sub-flip cast-flip flip-requires returns returns-2)
+    tie.close (tie.spec (λ c. search needs) (λ c. search needs) cast-flip (λ c κs. search needs) returns returns-2)

@@ -8,13 +8,10 @@ use lib.Pow.{shl-exact, pow-pos, pow-mono}
 use Rattle.signed.proofs.power.Statement.{statement}
 use Rattle.signed.proofs.power.Tie as tie
 
-shl-result : tie.Need-shl-result
-shl-result c = search needs
-
 returns : tie.Need-returns
 returns c =
     let k = c .args .k in
     rw (shl-exact 1 k 64 (omega arith) (omega arith) ∙ one-mul (2 ^ k)) (λ i. 2 ^ k, pow-pos k, pow-mono {j = 63} (omega arith))
 
 pub power-spec : {M : Type 1} → statement M
-power-spec = tie.close (tie.spec shl-result returns)
+power-spec = tie.close (tie.spec (λ c. search needs) returns)

@@ -16,12 +16,6 @@ use Rattle.signed.proofs.rem_floor.Tie as tie
 returns : tie.Need-returns
 returns c = rw (eq-eqb (c .before .args .d) 0 (c .if1 .taken))
 
-size-requires : tie.Need-size-requires
-size-requires c κs = search needs
-
-rem-m : tie.Need-rem-m
-rem-m c = search needs
-
 sub-result : tie.Need-sub-result
 sub-result c = search needs
 
@@ -53,4 +47,4 @@ returns-3 c =
 
 pub rem-floor-spec : {M : Type 1} → statement M
 rem-floor-spec =
-    tie.close (tie.spec returns size-requires rem-m sub-result sub-result-2 returns-2 returns-3)
+    tie.close (tie.spec returns (λ c κs. search needs) (λ c. search needs) sub-result sub-result-2 returns-2 returns-3)

@@ -13,17 +13,11 @@ use Rattle.signed.proofs.Extend.{lower-half, upper-half, machine}
 use Rattle.signed.proofs.sign_extended.Statement.{statement}
 use Rattle.signed.proofs.sign_extended.Tie as tie
 
-from-bits-requires : tie.Need-from-bits-requires
-from-bits-requires c κs = search needs
-
 returns : tie.Need-returns
 returns c =
     let s = c .before .before in
     rw (le-ltb (s .args .width) 64 (omega arith))
     (toZ-ofZ {w = w64} (record { sfits = c .from-bits .ok }) ∙ c .from-bits .ensures ∙ machine (s .args .n) (omega arith))
-
-power-requires : tie.Need-power-requires
-power-requires c κs = search needs
 
 rem-low : tie.Need-rem-low
 rem-low c = c .power .ensures .1
@@ -45,9 +39,6 @@ sub-flip-2 c = omega (arith, below (c .before))
 
 cast-flip : tie.Need-cast-flip
 cast-flip c = search needs
-
-flip-requires : tie.Need-flip-requires
-flip-requires c κs = search needs
 
 returns-2 : tie.Need-returns-2
 returns-2 c =
@@ -76,15 +67,15 @@ pub sign-extended-spec : {M : Type 1} → statement M
 sign-extended-spec =
     tie.close
     (tie.spec
-    from-bits-requires
+    (λ c κs. search needs)
     returns
-    power-requires
+    (λ c κs. search needs)
     rem-low
     sub-if2
     cast-result
     sub-flip
     sub-flip-2
     cast-flip
-    flip-requires
+    (λ c κs. search needs)
     returns-2
     returns-3)

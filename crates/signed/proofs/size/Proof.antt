@@ -13,9 +13,6 @@ use Rattle.signed.proofs.Machine.{read-nat, cast-nat}
 use Rattle.signed.proofs.size.Statement.{statement}
 use Rattle.signed.proofs.size.Tie as tie
 
-flip-requires : tie.Need-flip-requires
-flip-requires c κs = search needs
-
 -- what is read back of `flip(x)`, where x is negative, and of x, where it is not
 flipped-is : (c : tie.After-flip) → toZ w64 (ofZ w64 (c .flip .result)) ≡ pos (mag (c .before .before .args .x))
 flipped-is c =
@@ -38,4 +35,4 @@ returns-2 : tie.Need-returns-2
 returns-2 c = ap natAbs (itself c)
 
 pub size-spec : {M : Type 1} → statement M
-size-spec = tie.close (tie.spec flip-requires cast-result cast-result-2 returns returns-2)
+size-spec = tie.close (tie.spec (λ c κs. search needs) cast-result cast-result-2 returns returns-2)

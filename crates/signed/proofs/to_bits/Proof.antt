@@ -11,9 +11,6 @@ use Rattle.signed.proofs.Tests.{test-neg, test-nat}
 use Rattle.signed.proofs.to_bits.Statement.{statement}
 use Rattle.signed.proofs.to_bits.Tie as tie
 
-size-requires : tie.Need-size-requires
-size-requires c κs = search needs
-
 sub-result : tie.Need-sub-result
 sub-result c = search needs
 
@@ -34,4 +31,4 @@ returns-2 c =
     sized (c .before) ∙ sym (ap (ofZ w64) (test-nat w64 (s .fits .x) (c .if1 .left)))
 
 pub to-bits-spec : {M : Type 1} → statement M
-to-bits-spec = tie.close (tie.spec size-requires sub-result returns returns-2)
+to-bits-spec = tie.close (tie.spec (λ c κs. search needs) sub-result returns returns-2)

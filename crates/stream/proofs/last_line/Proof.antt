@@ -10,15 +10,6 @@ returns : tie.Need-returns
 unfolding lastText
 returns c = simp (eq-eqb _ _ (c .if1 .taken)) (nothing-in-room (c .before .before .args .out .now))
 
-first-requires : tie.Need-first-requires
-first-requires c κs = search needs
-
-answer-line-requires : tie.Need-answer-line-requires
-answer-line-requires c κs = search needs
-
-same-length : tie.Need-same-length
-same-length c = search needs
-
 returns-2 : tie.Need-returns-2
 unfolding lastText
 returns-2 c =
@@ -27,4 +18,4 @@ returns-2 c =
 
 pub last-line-spec : {M : Type 1} → statement M
 last-line-spec =
-    tie.close (tie.spec returns first-requires answer-line-requires same-length returns-2)
+    tie.close (tie.spec returns (λ c κs. search needs) (λ c κs. search needs) (λ c. search needs) returns-2)

@@ -8,15 +8,6 @@ use Rattle.lines.proofs.Texts.{nothing-put, in-room}
 use Rattle.stream.proofs.take_byte.Statement.{statement}
 use Rattle.stream.proofs.take_byte.Tie as tie
 
-first-requires : tie.Need-first-requires
-first-requires c κs = search needs
-
-answer-line-requires : tie.Need-answer-line-requires
-answer-line-requires c κs = search needs
-
-same-length : tie.Need-same-length
-same-length c = search needs
-
 returns : tie.Need-returns
 unfolding afterByte
 returns c =
@@ -25,9 +16,6 @@ returns c =
     let out = start .args .out .now in
     simp (eq-eqb _ _ (line .before .before .before .if1 .taken))
     (refl, rw (line .first .ensures, in-room out (start .args .at) _ (omega arith)) at (c .before .before .answer-line .ensures))
-
-keep-requires : tie.Need-keep-requires
-keep-requires c κs = search needs
 
 returns-2 : tie.Need-returns-2
 unfolding afterByte
@@ -40,4 +28,4 @@ returns-2 c =
 pub take-byte-spec : {M : Type 1} → statement M
 take-byte-spec =
     tie.close
-    (tie.spec first-requires answer-line-requires same-length returns keep-requires returns-2)
+    (tie.spec (λ c κs. search needs) (λ c κs. search needs) (λ c. search needs) returns (λ c κs. search needs) returns-2)

@@ -20,9 +20,6 @@ returns c = rw (window-early (c .before .args .seconds) (rw (toZ-ofZ (c .before 
 returns-2 : tie.Need-returns-2
 returns-2 c = rw (window-late (c .before .before .args .seconds) (rw (toZ-ofZ (c .before .before .fits .seconds)) at (c .if2 .taken)))
 
-div-floor-requires : tie.Need-div-floor-requires
-div-floor-requires c κs = search needs
-
 good : (c : tie.Else2) → inWindow (c .before .before .args .seconds) ≡ true
 good c =
     let s = c .before .before in
@@ -37,12 +34,6 @@ day c =
 
 date-of-requires : tie.Need-date-of-requires
 date-of-requires c κs = rw (day c) (window-day (c .before .before .before .args .seconds) (good (c .before)))
-
-rem-floor-requires : tie.Need-rem-floor-requires
-rem-floor-requires c κs = search needs
-
-on-date-requires : tie.Need-on-date-requires
-on-date-requires c κs = search needs
 
 returns-3 : tie.Need-returns-3
 returns-3 c =
@@ -59,8 +50,8 @@ fields-of-spec =
     (tie.spec
     returns
     returns-2
-    div-floor-requires
+    (λ c κs. search needs)
     date-of-requires
-    rem-floor-requires
-    on-date-requires
+    (λ c κs. search needs)
+    (λ c κs. search needs)
     returns-3)

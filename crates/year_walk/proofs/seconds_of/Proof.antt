@@ -12,9 +12,6 @@ use Rattle.day_time.proofs.Days.{some-day}
 use Rattle.year_walk.proofs.seconds_of.Statement.{statement}
 use Rattle.year_walk.proofs.seconds_of.Tie as tie
 
-is-date-requires : tie.Need-is-date-requires
-is-date-requires c κs = search needs
-
 tested : (c : tie.After-is-date) → let v = c .before .before .args .time in c .is-date .result ≡ goodDate (v .year) (v .month) (v .day)
 tested c =
     let y : SFits w64 (c .before .before .args .time .year) = search needs in
@@ -22,9 +19,6 @@ tested c =
 
 day-of-requires : tie.Need-day-of-requires
 day-of-requires c κs = sym (c .before .before .is-date .ensures) ∙ c .before .if1 .taken
-
-seconds-on-requires : tie.Need-seconds-on-requires
-seconds-on-requires c κs = search needs
 
 returns : tie.Need-returns
 returns c =
@@ -41,4 +35,4 @@ returns-2 c = rw (sym (tested (c .before)) ∙ c .if1 .left)
 
 pub seconds-of-spec : {M : Type 1} → statement M
 seconds-of-spec =
-    tie.close (tie.spec is-date-requires day-of-requires seconds-on-requires returns returns-2)
+    tie.close (tie.spec (λ c κs. search needs) day-of-requires (λ c κs. search needs) returns returns-2)

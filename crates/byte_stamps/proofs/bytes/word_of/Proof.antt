@@ -9,21 +9,6 @@ use denote.Ref.{now}
 use Rattle.byte_stamps.proofs.bytes.word_of.Statement.{statement}
 use Rattle.byte_stamps.proofs.bytes.word_of.Tie as tie
 
-sub-get16 : tie.Need-sub-get16
-sub-get16 c = search needs
-
-part-get16-start : tie.Need-part-get16-start
-part-get16-start c = search needs
-
-part-get16-end : tie.Need-part-get16-end
-part-get16-end c = search needs
-
-get16-requires : tie.Need-get16-requires
-get16-requires c κs = search needs
-
-widened-pair-requires : tie.Need-widened-pair-requires
-widened-pair-requires c κs = search needs
-
 returns : tie.Need-returns
 returns c =
     let s = c .before .before .before .before in
@@ -36,9 +21,9 @@ pub word-of-spec : {M : Type 1} → statement M
 word-of-spec =
     tie.close
     (tie.spec
-    sub-get16
-    part-get16-start
-    part-get16-end
-    get16-requires
-    widened-pair-requires
+    (λ c. search needs)
+    (λ c. search needs)
+    (λ c. search needs)
+    (λ c κs. search needs)
+    (λ c κs. search needs)
     returns)

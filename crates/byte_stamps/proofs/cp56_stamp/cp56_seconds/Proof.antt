@@ -9,32 +9,8 @@ use Rattle.day_time.specs.Answers.{secondsFor}
 use Rattle.byte_stamps.proofs.cp56_stamp.cp56_seconds.Statement.{statement}
 use Rattle.byte_stamps.proofs.cp56_stamp.cp56_seconds.Tie as tie
 
-byte-of-requires : tie.Need-byte-of-requires
-byte-of-requires c κs = search needs
-
-add-seconds-at : tie.Need-add-seconds-at
-add-seconds-at c = search needs
-
 cast-seconds-at : tie.Need-cast-seconds-at
 cast-seconds-at c = search needs
-
-byte-of-requires-2 : tie.Need-byte-of-requires-2
-byte-of-requires-2 c κs = search needs
-
-byte-of-requires-3 : tie.Need-byte-of-requires-3
-byte-of-requires-3 c κs = search needs
-
-byte-of-requires-4 : tie.Need-byte-of-requires-4
-byte-of-requires-4 c κs = search needs
-
-byte-of-requires-5 : tie.Need-byte-of-requires-5
-byte-of-requires-5 c κs = search needs
-
-word-of-requires : tie.Need-word-of-requires
-word-of-requires c κs = search needs
-
-seconds-at-requires : tie.Need-seconds-at-requires
-seconds-at-requires c κs = search needs
 
 returns : tie.Need-returns
 returns c =
@@ -58,13 +34,13 @@ pub cp56-seconds-spec : {M : Type 1} → statement M
 cp56-seconds-spec =
     tie.close
     (tie.spec
-    byte-of-requires
-    add-seconds-at
+    (λ c κs. search needs)
+    (λ c. search needs)
     cast-seconds-at
-    byte-of-requires-2
-    byte-of-requires-3
-    byte-of-requires-4
-    byte-of-requires-5
-    word-of-requires
-    seconds-at-requires
+    (λ c κs. search needs)
+    (λ c κs. search needs)
+    (λ c κs. search needs)
+    (λ c κs. search needs)
+    (λ c κs. search needs)
+    (λ c κs. search needs)
     returns)

@@ -20,18 +20,6 @@ returns c =
     let b = c .before .before .args .stamp .now in
     sym (wrong-length 7 b (atNanos (wordAt b 0 % 1000 * 1000000) (secondsFor (cp56Fields b))) (c .if1 .taken))
 
-cp56-seconds-requires : tie.Need-cp56-seconds-requires
-cp56-seconds-requires c κs = search needs
-
-enum-known-found : tie.Need-enum-known-found
-enum-known-found c = search needs
-
-enum-told : tie.Need-enum-told
-enum-told c = search needs
-
-refusal-requires : tie.Need-refusal-requires
-refusal-requires c κs = search needs
-
 returns-2 : tie.Need-returns-2
 unfolding cp56
 returns-2 c =
@@ -42,18 +30,6 @@ returns-2 c =
     let n = wordAt b 0 % 1000 * 1000000 in
     handed-on (atNanos n) (λ n. refl) (sym e ∙ ap readSeconds (k .enum-told .given .1)) (c .refusal .ensures ∙ ap refusalIn e)
     ∙ sym (right-length 7 b (atNanos n (secondsFor (cp56Fields b))) (f .before .if1 .left))
-
-word-of-requires : tie.Need-word-of-requires
-word-of-requires c κs = search needs
-
-mul-nanos : tie.Need-mul-nanos
-mul-nanos c = search needs
-
-cast-nanos : tie.Need-cast-nanos
-cast-nanos c = search needs
-
-new-requires : tie.Need-new-requires
-new-requires c κs = search needs
 
 returns-3 : tie.Need-returns-3
 unfolding cp56
@@ -72,13 +48,13 @@ cp56time2a-spec =
     tie.close
     (tie.spec
     returns
-    cp56-seconds-requires
-    enum-known-found
-    enum-told
-    refusal-requires
+    (λ c κs. search needs)
+    (λ c. search needs)
+    (λ c. search needs)
+    (λ c κs. search needs)
     returns-2
-    word-of-requires
-    mul-nanos
-    cast-nanos
-    new-requires
+    (λ c κs. search needs)
+    (λ c. search needs)
+    (λ c. search needs)
+    (λ c κs. search needs)
     returns-3)

@@ -18,18 +18,6 @@ returns c =
     let b = c .before .before .args .stamp .now in
     sym (wrong-length 7 b (atNanos 0 (secondsFor (oracleFields b))) (c .if1 .taken))
 
-oracle-seconds-requires : tie.Need-oracle-seconds-requires
-oracle-seconds-requires c κs = search needs
-
-enum-known-found : tie.Need-enum-known-found
-enum-known-found c = search needs
-
-enum-told : tie.Need-enum-told
-enum-told c = search needs
-
-refusal-requires : tie.Need-refusal-requires
-refusal-requires c κs = search needs
-
 returns-2 : tie.Need-returns-2
 unfolding oracleDate
 returns-2 c =
@@ -39,9 +27,6 @@ returns-2 c =
     let e = f .oracle-seconds .ensures in
     handed-on (atNanos 0) (λ n. refl) (sym e ∙ ap readSeconds (k .enum-told .given .1)) (c .refusal .ensures ∙ ap refusalIn e)
     ∙ sym (right-length 7 b (atNanos 0 (secondsFor (oracleFields b))) (f .before .if1 .left))
-
-at-second-requires : tie.Need-at-second-requires
-at-second-requires c κs = search needs
 
 returns-3 : tie.Need-returns-3
 unfolding oracleDate
@@ -58,10 +43,10 @@ oracle-date-spec =
     tie.close
     (tie.spec
     returns
-    oracle-seconds-requires
-    enum-known-found
-    enum-told
-    refusal-requires
+    (λ c κs. search needs)
+    (λ c. search needs)
+    (λ c. search needs)
+    (λ c κs. search needs)
     returns-2
-    at-second-requires
+    (λ c κs. search needs)
     returns-3)

@@ -13,18 +13,6 @@ use native.Mathlib.Omega.{arith}
 use Rattle.byte_stamps.proofs.oracle_stamp.oracle_seconds.Statement.{statement}
 use Rattle.byte_stamps.proofs.oracle_stamp.oracle_seconds.Tie as tie
 
-byte-of-requires : tie.Need-byte-of-requires
-byte-of-requires c κs = search needs
-
-mul-years : tie.Need-mul-years
-mul-years c = search needs
-
-byte-of-requires-2 : tie.Need-byte-of-requires-2
-byte-of-requires-2 c κs = search needs
-
-add-years : tie.Need-add-years
-add-years c = search needs
-
 cast-seconds-at : tie.Need-cast-seconds-at
 cast-seconds-at c = search needs
 
@@ -37,33 +25,6 @@ fit c = less-fits (pos (c .before .byte-of .result * 100 + c .byte-of2 .result))
 
 sub-seconds-at : tie.Need-sub-seconds-at
 sub-seconds-at c = rw (years c) (fit c)
-
-byte-of-requires-3 : tie.Need-byte-of-requires-3
-byte-of-requires-3 c κs = search needs
-
-byte-of-requires-4 : tie.Need-byte-of-requires-4
-byte-of-requires-4 c κs = search needs
-
-byte-of-requires-5 : tie.Need-byte-of-requires-5
-byte-of-requires-5 c κs = search needs
-
-add-seconds-at : tie.Need-add-seconds-at
-add-seconds-at c = search needs
-
-byte-of-requires-6 : tie.Need-byte-of-requires-6
-byte-of-requires-6 c κs = search needs
-
-add-seconds-at-2 : tie.Need-add-seconds-at-2
-add-seconds-at-2 c = search needs
-
-byte-of-requires-7 : tie.Need-byte-of-requires-7
-byte-of-requires-7 c κs = search needs
-
-add-seconds-at-3 : tie.Need-add-seconds-at-3
-add-seconds-at-3 c = search needs
-
-seconds-at-requires : tie.Need-seconds-at-requires
-seconds-at-requires c κs = search needs
 
 returns : tie.Need-returns
 returns c =
@@ -92,19 +53,19 @@ pub oracle-seconds-spec : {M : Type 1} → statement M
 oracle-seconds-spec =
     tie.close
     (tie.spec
-    byte-of-requires
-    mul-years
-    byte-of-requires-2
-    add-years
+    (λ c κs. search needs)
+    (λ c. search needs)
+    (λ c κs. search needs)
+    (λ c. search needs)
     cast-seconds-at
     sub-seconds-at
-    byte-of-requires-3
-    byte-of-requires-4
-    byte-of-requires-5
-    add-seconds-at
-    byte-of-requires-6
-    add-seconds-at-2
-    byte-of-requires-7
-    add-seconds-at-3
-    seconds-at-requires
+    (λ c κs. search needs)
+    (λ c κs. search needs)
+    (λ c κs. search needs)
+    (λ c. search needs)
+    (λ c κs. search needs)
+    (λ c. search needs)
+    (λ c κs. search needs)
+    (λ c. search needs)
+    (λ c κs. search needs)
     returns)

@@ -28,18 +28,6 @@ returns c =
     let x = atNanos (udfParts b % 1000000000) (moved (udfParts b / 1000000000) (udfMinutes (wordAt b 0) *ℤ pos 60) (secondsFor (udfFields b))) in
     sym (wrong-length 12 b x (c .if1 .taken))
 
-udf-seconds-requires : tie.Need-udf-seconds-requires
-udf-seconds-requires c κs = search needs
-
-enum-known-found : tie.Need-enum-known-found
-enum-known-found c = search needs
-
-enum-told : tie.Need-enum-told
-enum-told c = search needs
-
-refusal-requires : tie.Need-refusal-requires
-refusal-requires c κs = search needs
-
 returns-2 : tie.Need-returns-2
 unfolding udfStamp
 returns-2 c =
@@ -50,15 +38,6 @@ returns-2 c =
     let y : Answer ℤ → Answer Instant = λ a. atNanos (udfParts b % 1000000000) (moved (udfParts b / 1000000000) (udfMinutes (wordAt b 0) *ℤ pos 60) a) in
     handed-on y (λ n. refl) (sym e ∙ ap readSeconds (k .enum-told .given .1)) (c .refusal .ensures ∙ ap refusalIn e)
     ∙ sym (right-length 12 b (y (secondsFor (udfFields b))) (f .before .if1 .left))
-
-udf-parts-requires : tie.Need-udf-parts-requires
-udf-parts-requires c κs = search needs
-
-word-of-requires : tie.Need-word-of-requires
-word-of-requires c κs = search needs
-
-udf-minutes-requires : tie.Need-udf-minutes-requires
-udf-minutes-requires c κs = search needs
 
 -- the minutes, the civil time's second and what is carried, as the machine reads them back
 minutes : (c : tie.After-udf-minutes) → toZ w64 (ofZ w64 (c .udf-minutes .result)) ≡ c .udf-minutes .result
@@ -99,12 +78,6 @@ add-seconds c = rw (second c, carry c) (fits c .1)
 sub-seconds : tie.Need-sub-seconds
 sub-seconds c = let f = fits c in rw (second c, carry c, toZ-ofZ (f .1), minutes c, toZ-ofZ (f .0)) (f .2)
 
-cast-new : tie.Need-cast-new
-cast-new c = search needs
-
-new-requires : tie.Need-new-requires
-new-requires c κs = search needs
-
 returns-3 : tie.Need-returns-3
 unfolding udfStamp
 returns-3 c =
@@ -126,18 +99,18 @@ udf-spec =
     tie.close
     (tie.spec
     returns
-    udf-seconds-requires
-    enum-known-found
-    enum-told
-    refusal-requires
+    (λ c κs. search needs)
+    (λ c. search needs)
+    (λ c. search needs)
+    (λ c κs. search needs)
     returns-2
-    udf-parts-requires
-    word-of-requires
-    udf-minutes-requires
+    (λ c κs. search needs)
+    (λ c κs. search needs)
+    (λ c κs. search needs)
     mul-zone
     cast-seconds
     add-seconds
     sub-seconds
-    cast-new
-    new-requires
+    (λ c. search needs)
+    (λ c κs. search needs)
     returns-3)

@@ -13,9 +13,6 @@ use Rattle.byte_stamps.proofs.udf_stamp.udf_minutes.Tie as tie
 returns : tie.Need-returns
 returns c = rw (eq-eqb (c .before .args .zone % 4096) 2049 (c .if1 .taken)) (refl, omega arith)
 
-sign-extended-requires : tie.Need-sign-extended-requires
-sign-extended-requires c κs = search needs
-
 returns-2 : tie.Need-returns-2
 returns-2 c =
     let z = c .before .before .args .zone in
@@ -23,4 +20,4 @@ returns-2 c =
     rw (e, ne-eqb (z % 4096) 2049 (c .before .if1 .left)) (refl, minutes-small z)
 
 pub udf-minutes-spec : {M : Type 1} → statement M
-udf-minutes-spec = tie.close (tie.spec returns sign-extended-requires returns-2)
+udf-minutes-spec = tie.close (tie.spec returns (λ c κs. search needs) returns-2)

@@ -8,30 +8,6 @@ use Rattle.day_time.specs.Answers.{secondsFor}
 use Rattle.byte_stamps.proofs.udf_stamp.udf_seconds.Statement.{statement}
 use Rattle.byte_stamps.proofs.udf_stamp.udf_seconds.Tie as tie
 
-word-of-requires : tie.Need-word-of-requires
-word-of-requires c κs = search needs
-
-sign-extended-requires : tie.Need-sign-extended-requires
-sign-extended-requires c κs = search needs
-
-byte-of-requires : tie.Need-byte-of-requires
-byte-of-requires c κs = search needs
-
-byte-of-requires-2 : tie.Need-byte-of-requires-2
-byte-of-requires-2 c κs = search needs
-
-byte-of-requires-3 : tie.Need-byte-of-requires-3
-byte-of-requires-3 c κs = search needs
-
-byte-of-requires-4 : tie.Need-byte-of-requires-4
-byte-of-requires-4 c κs = search needs
-
-byte-of-requires-5 : tie.Need-byte-of-requires-5
-byte-of-requires-5 c κs = search needs
-
-seconds-at-requires : tie.Need-seconds-at-requires
-seconds-at-requires c κs = search needs
-
 returns : tie.Need-returns
 returns c =
     let b8 = c .before in
@@ -55,12 +31,12 @@ pub udf-seconds-spec : {M : Type 1} → statement M
 udf-seconds-spec =
     tie.close
     (tie.spec
-    word-of-requires
-    sign-extended-requires
-    byte-of-requires
-    byte-of-requires-2
-    byte-of-requires-3
-    byte-of-requires-4
-    byte-of-requires-5
-    seconds-at-requires
+    (λ c κs. search needs)
+    (λ c κs. search needs)
+    (λ c κs. search needs)
+    (λ c κs. search needs)
+    (λ c κs. search needs)
+    (λ c κs. search needs)
+    (λ c κs. search needs)
+    (λ c κs. search needs)
     returns)

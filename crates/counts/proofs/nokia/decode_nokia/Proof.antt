@@ -16,9 +16,6 @@ use Rattle.counts.proofs.nokia.decode_nokia.Tie as tie
 returns : tie.Need-returns
 returns c = sym (no-count (c .before .args .bits) (c .if1 .taken))
 
-reverse-requires : tie.Need-reverse-requires
-reverse-requires c κs = search needs
-
 small : (c : tie.After-reverse) → reversed (c .before .before .args .bits) < 2 ^ 32
 small c = reversed-small (c .before .before .args .bits) (omega arith)
 
@@ -35,9 +32,6 @@ sub-at-second c = rw (count c) (count-fits _ (small c) .0)
 add-at-second : tie.Need-add-at-second
 add-at-second c = let f = count-fits _ (small c) in rw (count c, toZ-ofZ (f .0)) (f .1)
 
-at-second-requires : tie.Need-at-second-requires
-at-second-requires c κs = search needs
-
 returns-2 : tie.Need-returns-2
 returns-2 c =
     let p = c .before in
@@ -49,9 +43,9 @@ decode-nokia-spec =
     tie.close
     (tie.spec
     returns
-    reverse-requires
+    (λ c κs. search needs)
     cast-p
     sub-at-second
     add-at-second
-    at-second-requires
+    (λ c κs. search needs)
     returns-2)

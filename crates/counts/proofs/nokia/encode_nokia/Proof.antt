@@ -59,9 +59,6 @@ add-p c = rw (sum c) (record { sfits = omega (arith, small c) })
 cast-p : tie.Need-cast-p
 cast-p c = cast-nat (read-nat w64 (sum c) (omega (arith, small c))) (record { fits = omega (arith, small c) })
 
-reverse-requires : tie.Need-reverse-requires
-reverse-requires c κs = search needs
-
 reverse-is : (c : tie.After-reverse) → c .reverse .result ≡ reversed (raised 1770359295 (given (c .before)))
 reverse-is c = c .reverse .ensures ∙ ap (λ z. reversed (natAbs z)) (read-nat w64 (sum (c .before)) (omega (arith, small (c .before))))
 
@@ -80,4 +77,4 @@ returns-4 c =
 pub encode-nokia-spec : {M : Type 1} → statement M
 encode-nokia-spec =
     tie.close
-    (tie.spec returns returns-2 returns-3 add-p cast-p reverse-requires cast-word returns-4)
+    (tie.spec returns returns-2 returns-3 add-p cast-p (λ c κs. search needs) cast-word returns-4)

@@ -15,9 +15,6 @@ use Rattle.counts.proofs.sql.decode_sql.Tie as tie
 returns : tie.Need-returns
 returns c = sym (no-ticks (c .before .args .bits) (c .if1 .taken))
 
-sign-extended-requires : tie.Need-sign-extended-requires
-sign-extended-requires c κs = search needs
-
 -- the day and the time of day, as the machine reads them back
 day : (c : tie.After-sign-extended) → toZ w64 (ofZ w64 (c .sign-extended .result)) ≡ sqlDay (c .before .before .args .bits)
 day c = toZ-ofZ {w = w64} (record { sfits = c .sign-extended .ok }) ∙ c .sign-extended .ensures
@@ -41,15 +38,6 @@ add-seconds-2 c =
     let f = seconds-fit (c .before .before .args .bits) (c .before .if1 .left) in
     rw (day c, toZ-ofZ (f .0), time c, toZ-ofZ (f .1)) (f .2)
 
-mul-nanos : tie.Need-mul-nanos
-mul-nanos c = search needs
-
-cast-nanos : tie.Need-cast-nanos
-cast-nanos c = search needs
-
-new-requires : tie.Need-new-requires
-new-requires c κs = search needs
-
 returns-2 : tie.Need-returns-2
 returns-2 c =
     let d = c .before in
@@ -62,12 +50,12 @@ decode-sql-spec =
     tie.close
     (tie.spec
     returns
-    sign-extended-requires
+    (λ c κs. search needs)
     mul-seconds
     cast-seconds
     add-seconds
     add-seconds-2
-    mul-nanos
-    cast-nanos
-    new-requires
+    (λ c. search needs)
+    (λ c. search needs)
+    (λ c κs. search needs)
     returns-2)

@@ -19,9 +19,6 @@ returns : tie.Need-returns
 unfolding sqlEncode
 returns c = let t = c .before .args .t in sym (no-nanos t (sqlWord (t .seconds +ℤ pos 2208988800) (t .nanos)) (c .if1 .taken))
 
-div-floor-requires : tie.Need-div-floor-requires
-div-floor-requires c κs = search needs
-
 seconds-fit : (c : tie.After-struct-told) → SFits w64 (c .before .before .args .t .seconds)
 seconds-fit c = record { sfits = c .struct-told .given .0 .1 }
 
@@ -37,9 +34,6 @@ fit c =
 add-day : tie.Need-add-day
 add-day c = rw (days c) (fit c)
 
-rem-floor-requires : tie.Need-rem-floor-requires
-rem-floor-requires c κs = search needs
-
 time : (c : tie.After-rem-floor) → c .rem-floor .result ≡ floorRem (c .before .before .before .before .args .t .seconds) 86400
 time c = rw (toZ-ofZ (seconds-fit (c .before .before))) at (c .rem-floor .ensures)
 
@@ -48,9 +42,6 @@ small c = omega (arith, time c, time-small (c .before .before .before .before .a
 
 mul-rest : tie.Need-mul-rest
 mul-rest c = record { fits = omega (arith, small c) }
-
-cast-rest : tie.Need-cast-rest
-cast-rest c = search needs
 
 add-rest : tie.Need-add-rest
 add-rest c = record { fits = omega (arith, small c) }
@@ -78,11 +69,11 @@ encode-sql-spec =
     tie.close
     (tie.spec
     returns
-    div-floor-requires
+    (λ c κs. search needs)
     add-day
-    rem-floor-requires
+    (λ c κs. search needs)
     mul-rest
-    cast-rest
+    (λ c. search needs)
     add-rest
     mul-roll
     add-roll

@@ -21,18 +21,6 @@ returns-2 c = let s = c .before .before .args in sym (minute-bad (s .number) (s 
 returns-3 : tie.Need-returns-3
 returns-3 c = let s = c .before .before .before .args in sym (second-bad (s .number) (s .hour) (s .minute) (s .second) (c .if3 .taken))
 
-mul-passed : tie.Need-mul-passed
-mul-passed c = search needs
-
-mul-passed-2 : tie.Need-mul-passed-2
-mul-passed-2 c = search needs
-
-add-passed : tie.Need-add-passed
-add-passed c = search needs
-
-add-passed-2 : tie.Need-add-passed-2
-add-passed-2 c = search needs
-
 cast-total : tie.Need-cast-total
 cast-total c = let s = c .before .before .before in rw (toZ-ofZ (s .fits .number)) (record { sfits = omega (arith, s .fits .number .sfits) })
 
@@ -91,10 +79,10 @@ seconds-on-spec =
     returns
     returns-2
     returns-3
-    mul-passed
-    mul-passed-2
-    add-passed
-    add-passed-2
+    (λ c. search needs)
+    (λ c. search needs)
+    (λ c. search needs)
+    (λ c. search needs)
     cast-total
     mul-total
     cast-total-2

@@ -10,12 +10,6 @@ use Rattle.decimal.proofs.Signs.{negated}
 use Rattle.decimal.proofs.read.negative_of.Statement.{statement}
 use Rattle.decimal.proofs.read.negative_of.Tie as tie
 
-enum-known-n : tie.Need-enum-known-n
-enum-known-n c = search needs
-
-enum-told : tie.Need-enum-told
-enum-told c = search needs
-
 returns : tie.Need-returns
 unfolding negative
 returns c = simp (c .enum-told .given .1)
@@ -23,12 +17,6 @@ returns c = simp (c .enum-told .given .1)
 returns-2 : tie.Need-returns-2
 unfolding negative
 returns-2 c = simp (c .before .before .n .given .1, lt-ltb _ _ (c .if1 .taken))
-
-wrapping-sub-u64-requires : tie.Need-wrapping-sub-u64-requires
-wrapping-sub-u64-requires c κs = search needs
-
-from-bits-requires : tie.Need-from-bits-requires
-from-bits-requires c κs = search needs
 
 returns-3 : tie.Need-returns-3
 unfolding negative
@@ -42,4 +30,4 @@ returns-3 c =
 pub negative-of-spec : {M : Type 1} → statement M
 negative-of-spec =
     tie.close
-    (tie.spec enum-known-n enum-told returns returns-2 wrapping-sub-u64-requires from-bits-requires returns-3)
+    (tie.spec (λ c. search needs) (λ c. search needs) returns returns-2 (λ c κs. search needs) (λ c κs. search needs) returns-3)

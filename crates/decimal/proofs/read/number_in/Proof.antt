@@ -11,24 +11,6 @@ use Rattle.decimal.proofs.read.number_in.Tie as tie
 returns : tie.Need-returns
 returns c = none _ (c .if1 .taken)
 
-shared-slice-read-if2 : tie.Need-shared-slice-read-if2
-shared-slice-read-if2 c = search needs
-
-sub-natural-in : tie.Need-sub-natural-in
-sub-natural-in c = search needs
-
-part-natural-in-start : tie.Need-part-natural-in-start
-part-natural-in-start c = search needs
-
-part-natural-in-end : tie.Need-part-natural-in-end
-part-natural-in-end c = search needs
-
-natural-in-requires : tie.Need-natural-in-requires
-natural-in-requires c κs = search needs
-
-negative-of-requires : tie.Need-negative-of-requires
-negative-of-requires c κs = search needs
-
 returns-2 : tie.Need-returns-2
 returns-2 c =
     let test = c .before .before .before in
@@ -36,12 +18,6 @@ returns-2 c =
     let text = some .before .before .args .text .now in
     c .negative-of .ensures ∙ ap negative (c .before .natural-in .ensures ∙ ap naturalOf (from-on text 1))
     ∙ sym (minus text (pos-of-ne-zero (some .if1 .left)) (test .if2 .taken))
-
-natural-in-requires-2 : tie.Need-natural-in-requires-2
-natural-in-requires-2 c κs = search needs
-
-positive-of-requires : tie.Need-positive-of-requires
-positive-of-requires c κs = search needs
 
 returns-3 : tie.Need-returns-3
 returns-3 c =
@@ -55,13 +31,13 @@ number-in-spec =
     tie.close
     (tie.spec
     returns
-    shared-slice-read-if2
-    sub-natural-in
-    part-natural-in-start
-    part-natural-in-end
-    natural-in-requires
-    negative-of-requires
+    (λ c. search needs)
+    (λ c. search needs)
+    (λ c. search needs)
+    (λ c. search needs)
+    (λ c κs. search needs)
+    (λ c κs. search needs)
     returns-2
-    natural-in-requires-2
-    positive-of-requires
+    (λ c κs. search needs)
+    (λ c κs. search needs)
     returns-3)

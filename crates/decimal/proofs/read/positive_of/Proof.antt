@@ -8,12 +8,6 @@ use Rattle.decimal.specs.Read.{positive}
 use Rattle.decimal.proofs.read.positive_of.Statement.{statement}
 use Rattle.decimal.proofs.read.positive_of.Tie as tie
 
-enum-known-n : tie.Need-enum-known-n
-enum-known-n c = search needs
-
-enum-told : tie.Need-enum-told
-enum-told c = search needs
-
 returns : tie.Need-returns
 unfolding positive
 returns c = simp (c .enum-told .given .1)
@@ -22,9 +16,6 @@ returns-2 : tie.Need-returns-2
 unfolding positive
 returns-2 c = simp (c .before .before .n .given .1, lt-ltb _ _ (c .if1 .taken))
 
-cast-z : tie.Need-cast-z
-cast-z c = search needs
-
 returns-3 : tie.Need-returns-3
 unfolding positive
 returns-3 c =
@@ -32,4 +23,4 @@ returns-3 c =
     simp (n .given .1, le-ltb _ _ (c .if1 .left), toZ-pos w64 {n = n .given .0 .0} (omega arith))
 
 pub positive-of-spec : {M : Type 1} → statement M
-positive-of-spec = tie.close (tie.spec enum-known-n enum-told returns returns-2 cast-z returns-3)
+positive-of-spec = tie.close (tie.spec (λ c. search needs) (λ c. search needs) returns returns-2 (λ c. search needs) returns-3)

@@ -10,12 +10,6 @@ use Rattle.signed.proofs.Tests.{test-neg, test-nat}
 use Rattle.decimal.proofs.write.magnitude.Statement.{statement}
 use Rattle.decimal.proofs.write.magnitude.Tie as tie
 
-to-bits-requires : tie.Need-to-bits-requires
-to-bits-requires c κs = search needs
-
-wrapping-sub-u64-requires : tie.Need-wrapping-sub-u64-requires
-wrapping-sub-u64-requires c κs = search needs
-
 bits : (c : tie.After-to-bits) → c .to-bits .result ≡ ofZ w64 (c .before .args .z)
 bits c = rw (toZ-ofZ (c .before .fits .z)) at (c .to-bits .ensures)
 
@@ -33,4 +27,4 @@ returns-2 c =
     bits b ∙ ap (ofZ w64) e ∙ sym (ap natAbs e)
 
 pub magnitude-spec : {M : Type 1} → statement M
-magnitude-spec = tie.close (tie.spec to-bits-requires wrapping-sub-u64-requires returns returns-2)
+magnitude-spec = tie.close (tie.spec (λ c κs. search needs) (λ c κs. search needs) returns returns-2)

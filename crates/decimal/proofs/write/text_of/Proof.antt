@@ -16,9 +16,6 @@ use Rattle.decimal.proofs.AtEnd.{from-at, lent, one-more}
 use Rattle.decimal.proofs.write.text_of.Statement.{statement}
 use Rattle.decimal.proofs.write.text_of.Tie as tie
 
-magnitude-requires : tie.Need-magnitude-requires
-magnitude-requires c κs = search needs
-
 size : (c : tie.After-magnitude) → c .magnitude .result ≡ natAbs (c .before .args .z)
 size c = rw (toZ-ofZ (c .before .fits .z)) at (c .magnitude .ensures)
 
@@ -55,4 +52,4 @@ returns-2 c =
 pub text-of-spec : {M : Type 1} → statement M
 text-of-spec =
     tie.close
-    (tie.spec magnitude-requires digits-of-requires sub-from array-write-bytes returns returns-2)
+    (tie.spec (λ c κs. search needs) digits-of-requires sub-from array-write-bytes returns returns-2)

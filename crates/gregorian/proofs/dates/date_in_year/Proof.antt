@@ -11,18 +11,9 @@ use native.Mathlib.Omega.{arith}
 use Rattle.gregorian.proofs.dates.date_in_year.Statement.{statement}
 use Rattle.gregorian.proofs.dates.date_in_year.Tie as tie
 
-is-leap-requires : tie.Need-is-leap-requires
-is-leap-requires c κs = search needs
-
 month-of-requires : tie.Need-month-of-requires
 unfolding yearDays
 month-of-requires c κs = omega (arith, c .before .pre .1, ap (λ b. daysOfMonths b 12) (c .is-leap .ensures))
-
-year-at-requires : tie.Need-year-at-requires
-year-at-requires c κs = search needs
-
-add-t6 : tie.Need-add-t6
-add-t6 c = search needs
 
 found : (c : tie.After-month-of) → let s = c .before .before .args in InMonth (leap (yearAt (s .years))) (s .left) (c .month-of .result .month) (c .month-of .result .left)
 found c =
@@ -43,4 +34,4 @@ returns c =
 
 pub date-in-year-spec : {M : Type 1} → statement M
 date-in-year-spec =
-    tie.close (tie.spec is-leap-requires month-of-requires year-at-requires add-t6 add-t7 returns)
+    tie.close (tie.spec (λ c κs. search needs) month-of-requires (λ c κs. search needs) (λ c. search needs) add-t7 returns)

@@ -25,12 +25,6 @@ good c =
 days-to-requires : tie.Need-days-to-requires
 days-to-requires c κs = rw (toZ-ofZ (c .before .before .fits .number)) (good c)
 
-year-of-requires : tie.Need-year-of-requires
-year-of-requires c κs = search needs
-
-date-in-year-requires : tie.Need-date-in-year-requires
-date-in-year-requires c κs = search needs
-
 returns-3 : tie.Need-returns-3
 returns-3 c =
     let s = c .before .before .before .before .before in
@@ -40,4 +34,4 @@ returns-3 c =
 pub date-of-spec : {M : Type 1} → statement M
 date-of-spec =
     tie.close
-    (tie.spec returns returns-2 days-to-requires year-of-requires date-in-year-requires returns-3)
+    (tie.spec returns returns-2 days-to-requires (λ c κs. search needs) (λ c κs. search needs) returns-3)

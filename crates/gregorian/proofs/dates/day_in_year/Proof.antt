@@ -27,12 +27,6 @@ returns-2 c = let s = c .before .before .args in rw (month-late (yearAt (s .year
 returns-3 : tie.Need-returns-3
 returns-3 c = let s = c .before .before .before .args in rw (day-early (yearAt (s .years)) (s .month) (s .day) (c .if3 .taken))
 
-is-leap-requires : tie.Need-is-leap-requires
-is-leap-requires c κs = search needs
-
-length-of-month-requires : tie.Need-length-of-month-requires
-length-of-month-requires c κs = search needs
-
 -- the month's length, in the calendar's words
 length-is : (c : tie.After-length-of-month) → let s = c .before .before .before .before .before .args in
     c .length-of-month .result ≡ monthLength (yearAt (s .years)) (s .month)
@@ -44,9 +38,6 @@ returns-4 : tie.Need-returns-4
 returns-4 c =
     let s = c .before .before .before .before .before .before .args in
     rw (day-late (yearAt (s .years)) (s .month) (s .day) (omega (arith, length-is (c .before))))
-
-days-before-month-requires : tie.Need-days-before-month-requires
-days-before-month-requires c κs = search needs
 
 -- the sum, in the calendar's words, and how large it can be
 total : (c : tie.After-days-before-month) → let s = c .before .before .before .before .before .before .before .args in
@@ -88,10 +79,10 @@ day-in-year-spec =
     returns
     returns-2
     returns-3
-    is-leap-requires
-    length-of-month-requires
+    (λ c κs. search needs)
+    (λ c κs. search needs)
     returns-4
-    days-before-month-requires
+    (λ c κs. search needs)
     add-number-at
     add-number-at-2
     number-at-requires

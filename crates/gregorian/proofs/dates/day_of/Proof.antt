@@ -28,12 +28,6 @@ good c =
 years-to-requires : tie.Need-years-to-requires
 years-to-requires c κs = rw (toZ-ofZ (c .before .before .fits .year)) (good c)
 
-days-before-year-requires : tie.Need-days-before-year-requires
-days-before-year-requires c κs = search needs
-
-day-in-year-requires : tie.Need-day-in-year-requires
-day-in-year-requires c κs = search needs
-
 returns-3 : tie.Need-returns-3
 returns-3 c =
     let s = c .before .before .before .before .before in
@@ -47,6 +41,6 @@ day-of-spec =
     returns
     returns-2
     years-to-requires
-    days-before-year-requires
-    day-in-year-requires
+    (λ c κs. search needs)
+    (λ c κs. search needs)
     returns-3)

@@ -7,9 +7,6 @@ use Rattle.gregorian.specs.Gregorian.{epochDay}
 use Rattle.gregorian.proofs.dates.number_at.Statement.{statement}
 use Rattle.gregorian.proofs.dates.number_at.Tie as tie
 
-cast-result : tie.Need-cast-result
-cast-result c = search needs
-
 sub-result : tie.Need-sub-result
 sub-result c = lowers w64 (c .args .days) epochDay (omega arith) (omega arith) .fits
 
@@ -17,4 +14,4 @@ returns : tie.Need-returns
 returns c = lowers w64 (c .args .days) epochDay (omega arith) (omega arith) .is
 
 pub number-at-spec : {M : Type 1} → statement M
-number-at-spec = tie.close (tie.spec cast-result sub-result returns)
+number-at-spec = tie.close (tie.spec (λ c. search needs) sub-result returns)

@@ -8,9 +8,6 @@ use Rattle.signed.proofs.Machine.{lowers}
 use Rattle.gregorian.proofs.dates.year_at.Statement.{statement}
 use Rattle.gregorian.proofs.dates.year_at.Tie as tie
 
-cast-result : tie.Need-cast-result
-cast-result c = search needs
-
 sub-result : tie.Need-sub-result
 sub-result c = lowers w64 (c .args .years) 10000 (omega arith) (omega arith) .fits
 
@@ -18,4 +15,4 @@ returns : tie.Need-returns
 returns c = lowers w64 (c .args .years) 10000 (omega arith) (omega arith) .is ∙ sym (minus (c .args .years) 10000)
 
 pub year-at-spec : {M : Type 1} → statement M
-year-at-spec = tie.close (tie.spec cast-result sub-result returns)
+year-at-spec = tie.close (tie.spec (λ c. search needs) sub-result returns)

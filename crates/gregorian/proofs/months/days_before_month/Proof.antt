@@ -7,15 +7,6 @@ use Rattle.gregorian.proofs.MonthSums.{closed-is, lacking-most}
 use Rattle.gregorian.proofs.months.days_before_month.Statement.{statement}
 use Rattle.gregorian.proofs.months.days_before_month.Tie as tie
 
-mul-result : tie.Need-mul-result
-mul-result c = search needs
-
-add-result : tie.Need-add-result
-add-result c = search needs
-
-lacking-requires : tie.Need-lacking-requires
-lacking-requires c κs = search needs
-
 sub-result : tie.Need-sub-result
 sub-result c =
     let s = c .before .args in omega (arith, c .lacking .ensures, lacking-most (s .leap) (s .month))
@@ -27,4 +18,4 @@ returns c =
 
 pub days-before-month-spec : {M : Type 1} → statement M
 days-before-month-spec =
-    tie.close (tie.spec mul-result add-result lacking-requires sub-result returns)
+    tie.close (tie.spec (λ c. search needs) (λ c. search needs) (λ c κs. search needs) sub-result returns)

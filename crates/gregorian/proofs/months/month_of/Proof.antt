@@ -17,12 +17,6 @@ sub-left c =
     let s = c .before in
     omega (arith, c .days-before-month .ensures, guess-low (s .args .leap) (s .args .day) _ (s .pre) refl)
 
-length-of-month-requires : tie.Need-length-of-month-requires
-length-of-month-requires c κs = search needs
-
-add-t9 : tie.Need-add-t9
-add-t9 c = search needs
-
 returns : tie.Need-returns
 returns c =
     let s = c .before .before .before in
@@ -40,4 +34,4 @@ returns-2 c =
 pub month-of-spec : {M : Type 1} → statement M
 month-of-spec =
     tie.close
-    (tie.spec days-before-month-requires sub-left length-of-month-requires add-t9 returns returns-2)
+    (tie.spec days-before-month-requires sub-left (λ c κs. search needs) (λ c. search needs) returns returns-2)

@@ -6,16 +6,10 @@ use Rattle.lines.proofs.Narrow.{too-wide, held}
 use Rattle.lines.proofs.answers.narrow.Statement.{statement}
 use Rattle.lines.proofs.answers.narrow.Tie as tie
 
-to-bits-requires : tie.Need-to-bits-requires
-to-bits-requires c κs = search needs
-
 returns : tie.Need-returns
 returns c =
     let e = rw (toZ-ofZ (c .before .before .fits .z)) at (c .before .to-bits .ensures) in
     too-wide _ _ (rw e at (c .if1 .taken))
-
-cast-result : tie.Need-cast-result
-cast-result c = search needs
 
 returns-2 : tie.Need-returns-2
 returns-2 c =
@@ -23,4 +17,4 @@ returns-2 c =
     e ∙ held _ _ (c .before .before .fits .z) (rw e at (c .if1 .left))
 
 pub narrow-spec : {M : Type 1} → statement M
-narrow-spec = tie.close (tie.spec to-bits-requires returns cast-result returns-2)
+narrow-spec = tie.close (tie.spec (λ c κs. search needs) returns (λ c. search needs) returns-2)

@@ -4,18 +4,9 @@ use Rattle.lines.specs.Answers.{badLine}
 use Rattle.lines.proofs.answers.put_bad_line.Statement.{statement}
 use Rattle.lines.proofs.answers.put_bad_line.Tie as tie
 
-slice-aggregate-put : tie.Need-slice-aggregate-put
-slice-aggregate-put c = search needs
-
-put-requires : tie.Need-put-requires
-put-requires c κs = search needs
-
-same-length : tie.Need-same-length
-same-length c = search needs
-
 returns : tie.Need-returns
 unfolding badLine
 returns c = c .before .before .put .ensures
 
 pub put-bad-line-spec : {M : Type 1} → statement M
-put-bad-line-spec = tie.close (tie.spec slice-aggregate-put put-requires same-length returns)
+put-bad-line-spec = tie.close (tie.spec (λ c. search needs) (λ c κs. search needs) (λ c. search needs) returns)

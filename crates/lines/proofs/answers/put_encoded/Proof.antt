@@ -6,29 +6,11 @@ use Rattle.lines.specs.Answers.{encodedText}
 use Rattle.lines.proofs.answers.put_encoded.Statement.{statement}
 use Rattle.lines.proofs.answers.put_encoded.Tie as tie
 
-enum-known-answer : tie.Need-enum-known-answer
-enum-known-answer c = search needs
-
-put-number-requires : tie.Need-put-number-requires
-put-number-requires c κs = search needs
-
-enum-known-answer-2 : tie.Need-enum-known-answer-2
-enum-known-answer-2 c = search needs
-
-put-refused-requires : tie.Need-put-refused-requires
-put-refused-requires c κs = search needs
-
-same-length : tie.Need-same-length
-same-length c = search needs
-
 returns : tie.Need-returns
 unfolding encodedText
 returns c =
     let word = c .before .before .before .before .before .answer .given in
     rw (word .1) (rw (toZ-ofZ {w = w64} {z = word .0 .0} (search needs)) at (c .before .before .put-number .ensures))
-
-same-length-2 : tie.Need-same-length-2
-same-length-2 c = search needs
 
 returns-2 : tie.Need-returns-2
 unfolding encodedText
@@ -38,11 +20,11 @@ pub put-encoded-spec : {M : Type 1} → statement M
 put-encoded-spec =
     tie.close
     (tie.spec
-    enum-known-answer
-    put-number-requires
-    enum-known-answer-2
-    put-refused-requires
-    same-length
+    (λ c. search needs)
+    (λ c κs. search needs)
+    (λ c. search needs)
+    (λ c κs. search needs)
+    (λ c. search needs)
     returns
-    same-length-2
+    (λ c. search needs)
     returns-2)

@@ -12,24 +12,6 @@ use Rattle.decimal.specs.Write.{showInt}
 use Rattle.lines.proofs.answers.put_instant.Statement.{statement}
 use Rattle.lines.proofs.answers.put_instant.Tie as tie
 
-put-number-requires : tie.Need-put-number-requires
-put-number-requires c κs = search needs
-
-slice-aggregate-put : tie.Need-slice-aggregate-put
-slice-aggregate-put c = search needs
-
-put-requires : tie.Need-put-requires
-put-requires c κs = search needs
-
-cast-put-number : tie.Need-cast-put-number
-cast-put-number c = search needs
-
-put-number-requires-2 : tie.Need-put-number-requires-2
-put-number-requires-2 c κs = search needs
-
-same-length : tie.Need-same-length
-same-length c = search needs
-
 returns : tie.Need-returns
 unfolding instantText
 returns c =
@@ -50,10 +32,10 @@ pub put-instant-spec : {M : Type 1} → statement M
 put-instant-spec =
     tie.close
     (tie.spec
-    put-number-requires
-    slice-aggregate-put
-    put-requires
-    cast-put-number
-    put-number-requires-2
-    same-length
+    (λ c κs. search needs)
+    (λ c. search needs)
+    (λ c κs. search needs)
+    (λ c. search needs)
+    (λ c κs. search needs)
+    (λ c. search needs)
     returns)

@@ -5,24 +5,6 @@ use Rattle.decimal.proofs.AtEnd.{lends}
 use Rattle.lines.proofs.answers.put_number.Statement.{statement}
 use Rattle.lines.proofs.answers.put_number.Tie as tie
 
-text-of-requires : tie.Need-text-of-requires
-text-of-requires c κs = search needs
-
-sub-put : tie.Need-sub-put
-sub-put c = search needs
-
-part-put-start : tie.Need-part-put-start
-part-put-start c = search needs
-
-part-put-end : tie.Need-part-put-end
-part-put-end c = search needs
-
-put-requires : tie.Need-put-requires
-put-requires c κs = search needs
-
-same-length : tie.Need-same-length
-same-length c = search needs
-
 returns : tie.Need-returns
 returns c =
     let text = c .before .before .before .before .before .before .before in
@@ -33,10 +15,10 @@ pub put-number-spec : {M : Type 1} → statement M
 put-number-spec =
     tie.close
     (tie.spec
-    text-of-requires
-    sub-put
-    part-put-start
-    part-put-end
-    put-requires
-    same-length
+    (λ c κs. search needs)
+    (λ c. search needs)
+    (λ c. search needs)
+    (λ c. search needs)
+    (λ c κs. search needs)
+    (λ c. search needs)
     returns)

@@ -6,21 +6,9 @@ use Rattle.lines.specs.Questions.{asksDecode}
 use Rattle.lines.proofs.questions.asks_decode.Statement.{statement}
 use Rattle.lines.proofs.questions.asks_decode.Tie as tie
 
-enum-known-layout : tie.Need-enum-known-layout
-enum-known-layout c = search needs
-
-enum-told : tie.Need-enum-told
-enum-told c = search needs
-
 returns : tie.Need-returns
 unfolding asksDecode
 returns c = simp (c .enum-told .given .1)
-
-enum-known-word : tie.Need-enum-known-word
-enum-known-word c = search needs
-
-enum-told-2 : tie.Need-enum-told-2
-enum-told-2 c = search needs
 
 returns-2 : tie.Need-returns-2
 unfolding asksDecode
@@ -36,4 +24,4 @@ returns-3 c =
 pub asks-decode-spec : {M : Type 1} → statement M
 asks-decode-spec =
     tie.close
-    (tie.spec enum-known-layout enum-told returns enum-known-word enum-told-2 returns-2 returns-3)
+    (tie.spec (λ c. search needs) (λ c. search needs) returns (λ c. search needs) (λ c. search needs) returns-2 returns-3)

@@ -6,31 +6,13 @@ use Rattle.lines.specs.Questions.{asksEncode}
 use Rattle.lines.proofs.questions.asks_encode.Statement.{statement}
 use Rattle.lines.proofs.questions.asks_encode.Tie as tie
 
-enum-known-layout : tie.Need-enum-known-layout
-enum-known-layout c = search needs
-
-enum-told : tie.Need-enum-told
-enum-told c = search needs
-
 returns : tie.Need-returns
 unfolding asksEncode
 returns c = simp (c .enum-told .given .1)
 
-enum-known-seconds : tie.Need-enum-known-seconds
-enum-known-seconds c = search needs
-
-enum-told-2 : tie.Need-enum-told-2
-enum-told-2 c = search needs
-
 returns-2 : tie.Need-returns-2
 unfolding asksEncode
 returns-2 c = simp (c .before .before .before .layout .given .1, c .enum-told2 .given .1)
-
-enum-known-nanos : tie.Need-enum-known-nanos
-enum-known-nanos c = search needs
-
-enum-told-3 : tie.Need-enum-told-3
-enum-told-3 c = search needs
 
 returns-3 : tie.Need-returns-3
 unfolding asksEncode
@@ -57,13 +39,13 @@ pub asks-encode-spec : {M : Type 1} → statement M
 asks-encode-spec =
     tie.close
     (tie.spec
-    enum-known-layout
-    enum-told
+    (λ c. search needs)
+    (λ c. search needs)
     returns
-    enum-known-seconds
-    enum-told-2
+    (λ c. search needs)
+    (λ c. search needs)
     returns-2
-    enum-known-nanos
-    enum-told-3
+    (λ c. search needs)
+    (λ c. search needs)
     returns-3
     returns-4)

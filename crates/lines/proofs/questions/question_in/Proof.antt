@@ -12,17 +12,11 @@ returns : tie.Need-returns
 unfolding questionOf
 returns c = simp (lt-ltb _ _ (c .if1 .taken))
 
-before-space-requires : tie.Need-before-space-requires
-before-space-requires c κs = search needs
-
 returns-2 : tie.Need-returns-2
 unfolding questionOf
 returns-2 c =
     let f = c .before in
     simp (le-ltb _ _ (f .before .if1 .left), ← f .before-space .ensures, ne-eqb _ _ (c .if2 .taken))
-
-shared-slice-read-letter : tie.Need-shared-slice-read-letter
-shared-slice-read-letter c = search needs
 
 -- a short line with one letter before its first space
 letter-first : (c : tie.Else2)
@@ -31,24 +25,12 @@ letter-first : (c : tie.Else2)
 unfolding questionOf
 letter-first c = simp (le-ltb _ _ (c .before .before .if1 .left), ← c .before .before-space .ensures, eq-eqb _ _ (c .if2 .left))
 
-after-space-requires : tie.Need-after-space-requires
-after-space-requires c κs = search needs
-
-decode-in-requires : tie.Need-decode-in-requires
-decode-in-requires c κs = search needs
-
 returns-3 : tie.Need-returns-3
 unfolding behindLetter
 returns-3 c =
     let letter = c .before .before in
     c .decode-in .ensures ∙ ap decodeIn (c .before .after-space .ensures)
     ∙ rw (letter-first (letter .before .before)) (simp (eq-eqb _ _ (letter .if3 .taken)))
-
-after-space-requires-2 : tie.Need-after-space-requires-2
-after-space-requires-2 c κs = search needs
-
-encode-in-requires : tie.Need-encode-in-requires
-encode-in-requires c κs = search needs
 
 returns-4 : tie.Need-returns-4
 unfolding behindLetter
@@ -66,13 +48,13 @@ question-in-spec =
     tie.close
     (tie.spec
     returns
-    before-space-requires
+    (λ c κs. search needs)
     returns-2
-    shared-slice-read-letter
-    after-space-requires
-    decode-in-requires
+    (λ c. search needs)
+    (λ c κs. search needs)
+    (λ c κs. search needs)
     returns-3
-    after-space-requires-2
-    encode-in-requires
+    (λ c κs. search needs)
+    (λ c κs. search needs)
     returns-4
     returns-5)

@@ -11,17 +11,11 @@ use Rattle.packing.specs.Parts.{asWord, Below63}
 use Rattle.packing.proofs.words.word_in.Statement.{statement}
 use Rattle.packing.proofs.words.word_in.Tie as tie
 
-enum-known-packed : tie.Need-enum-known-packed
-enum-known-packed c = search needs
-
 small : (c : tie.After-known-told) → c .before .packed .given .0 .0 < 2 ^ 63
 small c = subst (λ x. Below63 (readPacked x)) (c .before .packed .given .1) (c .before .before .before .pre)
 
 cast-word : tie.Need-cast-word
 cast-word c = record { sfits = omega (arith, small c) }
-
-enum-known-packed-2 : tie.Need-enum-known-packed-2
-enum-known-packed-2 c = search needs
 
 returns : tie.Need-returns
 returns c = ap gives (toZ-pos w64 (small c)) ∙ ap (λ x. asWord (readPacked x)) (sym (c .before .packed .given .1))
@@ -30,4 +24,4 @@ returns-2 : tie.Need-returns-2
 returns-2 c = ap (λ x. asWord (readPacked x)) (sym (c .before .packed2 .given .1))
 
 pub word-in-spec : {M : Type 1} → statement M
-word-in-spec = tie.close (tie.spec enum-known-packed cast-word enum-known-packed-2 returns returns-2)
+word-in-spec = tie.close (tie.spec (λ c. search needs) cast-word (λ c. search needs) returns returns-2)

@@ -15,21 +15,9 @@ use Rattle.packing.proofs.Writable.{writable}
 use Rattle.packing.proofs.words.word_of.Statement.{statement}
 use Rattle.packing.proofs.words.word_of.Tie as tie
 
-fields-of-requires : tie.Need-fields-of-requires
-fields-of-requires c κs = search needs
-
-enum-known-found : tie.Need-enum-known-found
-enum-known-found c = search needs
-
-enum-told : tie.Need-enum-told
-enum-told c = search needs
-
 -- what the calendar answered, and the civil time where it gave one
 answered : (c : tie.After-fields-of) → readFields (c .fields-of .result) ≡ fieldsFor (c .before .args .seconds)
 answered c = rw (toZ-ofZ (c .before .fits .seconds)) at (c .fields-of .ensures)
-
-refusal-requires : tie.Need-refusal-requires
-refusal-requires c κs = search needs
 
 returns : tie.Need-returns
 returns c =
@@ -61,10 +49,10 @@ pub word-of-spec : {M : Type 1} → statement M
 word-of-spec =
     tie.close
     (tie.spec
-    fields-of-requires
-    enum-known-found
-    enum-told
-    refusal-requires
+    (λ c κs. search needs)
+    (λ c. search needs)
+    (λ c. search needs)
+    (λ c κs. search needs)
     returns
     write-kind-requires
     word-in-requires

@@ -18,92 +18,38 @@ use Rattle.packing.proofs.words.write_kind.Tie as tie
 by-kind : (c : Civil) {k j : Kind} {x : Answer ℕ} → k ≡ j → x ≡ writeBy (layoutFor j) c → x ≡ writeBy (layoutFor k) c
 by-kind c e h = h ∙ ap (λ k. writeBy (layoutFor k) c) (sym e)
 
-enum-told : tie.Need-enum-told
-enum-told c = search needs
-
 write-bits-requires : tie.Need-write-bits-requires
 write-bits-requires c κs = ((writable FatDos, c .before .before .pre), refl)
-
-enum-told-2 : tie.Need-enum-told-2
-enum-told-2 c = search needs
 
 write-bits-requires-2 : tie.Need-write-bits-requires-2
 write-bits-requires-2 c κs = ((writable ExFat, c .before .before .pre), refl)
 
-enum-told-3 : tie.Need-enum-told-3
-enum-told-3 c = search needs
-
 write-bits-requires-3 : tie.Need-write-bits-requires-3
 write-bits-requires-3 c κs = ((writable Dttm, c .before .before .pre), refl)
-
-enum-told-4 : tie.Need-enum-told-4
-enum-told-4 c = search needs
 
 write-bits-requires-4 : tie.Need-write-bits-requires-4
 write-bits-requires-4 c κs = ((writable BitDate, c .before .before .pre), refl)
 
-reverse-packed-requires : tie.Need-reverse-packed-requires
-reverse-packed-requires c κs = search needs
-
-enum-told-5 : tie.Need-enum-told-5
-enum-told-5 c = search needs
-
 write-bits-requires-5 : tie.Need-write-bits-requires-5
 write-bits-requires-5 c κs = ((writable BitDec, c .before .before .pre), refl)
-
-enum-told-6 : tie.Need-enum-told-6
-enum-told-6 c = search needs
-
-write-pairs-requires : tie.Need-write-pairs-requires
-write-pairs-requires c κs = search needs
-
-enum-told-7 : tie.Need-enum-told-7
-enum-told-7 c = search needs
 
 write-bits-requires-6 : tie.Need-write-bits-requires-6
 write-bits-requires-6 c κs = ((writable Moto, c .before .before .pre), refl)
 
-enum-told-8 : tie.Need-enum-told-8
-enum-told-8 c = search needs
-
 write-bits-requires-7 : tie.Need-write-bits-requires-7
 write-bits-requires-7 c κs = ((writable Symantec, c .before .before .pre), refl)
-
-enum-told-9 : tie.Need-enum-told-9
-enum-told-9 c = search needs
 
 write-bits-requires-8 : tie.Need-write-bits-requires-8
 write-bits-requires-8 c κs = ((writable Dvr, c .before .before .pre), refl)
 
-enum-told-10 : tie.Need-enum-told-10
-enum-told-10 c = search needs
-
 write-bits-requires-9 : tie.Need-write-bits-requires-9
 write-bits-requires-9 c κs = ((writable Ns40, c .before .before .pre), refl)
-
-enum-told-11 : tie.Need-enum-told-11
-enum-told-11 c = search needs
 
 write-bits-requires-10 : tie.Need-write-bits-requires-10
 write-bits-requires-10 c κs = ((writable Ns40Le, c .before .before .pre), refl)
 
-swap-packed-year-requires : tie.Need-swap-packed-year-requires
-swap-packed-year-requires c κs = search needs
-
-enum-told-12 : tie.Need-enum-told-12
-enum-told-12 c = search needs
-
 write-bits-requires-11 : tie.Need-write-bits-requires-11
 write-bits-requires-11 c κs = ((writable LogTime, c .before .before .pre), refl)
-
-enum-told-13 : tie.Need-enum-told-13
-enum-told-13 c = search needs
-
-write-pairs-requires-2 : tie.Need-write-pairs-requires-2
-write-pairs-requires-2 c κs = search needs
-
-enum-told-14 : tie.Need-enum-told-14
-enum-told-14 c = search needs
 
 write-semi-octets-requires : tie.Need-write-semi-octets-requires
 write-semi-octets-requires c κs = ((writable Gsm, c .before .before .pre), refl)
@@ -154,35 +100,35 @@ pub write-kind-spec : {M : Type 1} → statement M
 write-kind-spec =
     tie.close
     (tie.spec
-    enum-told
+    (λ c. search needs)
     write-bits-requires
-    enum-told-2
+    (λ c. search needs)
     write-bits-requires-2
-    enum-told-3
+    (λ c. search needs)
     write-bits-requires-3
-    enum-told-4
+    (λ c. search needs)
     write-bits-requires-4
-    reverse-packed-requires
-    enum-told-5
+    (λ c κs. search needs)
+    (λ c. search needs)
     write-bits-requires-5
-    enum-told-6
-    write-pairs-requires
-    enum-told-7
+    (λ c. search needs)
+    (λ c κs. search needs)
+    (λ c. search needs)
     write-bits-requires-6
-    enum-told-8
+    (λ c. search needs)
     write-bits-requires-7
-    enum-told-9
+    (λ c. search needs)
     write-bits-requires-8
-    enum-told-10
+    (λ c. search needs)
     write-bits-requires-9
-    enum-told-11
+    (λ c. search needs)
     write-bits-requires-10
-    swap-packed-year-requires
-    enum-told-12
+    (λ c κs. search needs)
+    (λ c. search needs)
     write-bits-requires-11
-    enum-told-13
-    write-pairs-requires-2
-    enum-told-14
+    (λ c. search needs)
+    (λ c κs. search needs)
+    (λ c. search needs)
     write-semi-octets-requires
     returns
     returns-2

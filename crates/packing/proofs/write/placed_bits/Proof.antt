@@ -6,9 +6,6 @@ use Rattle.packing.specs.Writing.{numeral}
 use Rattle.packing.proofs.write.placed_bits.Statement.{statement}
 use Rattle.packing.proofs.write.placed_bits.Tie as tie
 
-steps-of-requires : tie.Need-steps-of-requires
-steps-of-requires c κs = search needs
-
 moved-requires : tie.Need-moved-requires
 unfolding numeral
 moved-requires c κs =
@@ -20,4 +17,4 @@ unfolding numeral
 returns c = c .moved .ensures ∙ ap (λ n. n * 2 ^ c .before .before .args .f .place) (c .before .steps-of .ensures)
 
 pub placed-bits-spec : {M : Type 1} → statement M
-placed-bits-spec = tie.close (tie.spec steps-of-requires moved-requires returns)
+placed-bits-spec = tie.close (tie.spec (λ c κs. search needs) moved-requires returns)

@@ -9,22 +9,10 @@ use Rattle.packing.proofs.Packing.{pair-place, hundred-small}
 use Rattle.packing.proofs.write.placed_pair.Statement.{statement}
 use Rattle.packing.proofs.write.placed_pair.Tie as tie
 
-steps-of-requires : tie.Need-steps-of-requires
-steps-of-requires c κs = search needs
-
-hundreds-requires : tie.Need-hundreds-requires
-hundreds-requires c κs = search needs
-
 count : (c : tie.After-hundreds) → c .hundreds .result ≡ 100 ^ c .before .before .args .f .place
 count c =
     let s = c .before .before in
     c .hundreds .ensures ∙ counts (s .args .f .place) (pair-place (s .args .swapped) (s .args .f) _ (s .pre .fits))
-
-mul-result : tie.Need-mul-result
-mul-result c = search needs
-
-add-result : tie.Need-add-result
-add-result c = search needs
 
 mul-result-2 : tie.Need-mul-result-2
 unfolding numeral
@@ -52,10 +40,10 @@ pub placed-pair-spec : {M : Type 1} → statement M
 placed-pair-spec =
     tie.close
     (tie.spec
-    steps-of-requires
-    hundreds-requires
-    mul-result
-    add-result
+    (λ c κs. search needs)
+    (λ c κs. search needs)
+    (λ c. search needs)
+    (λ c. search needs)
     mul-result-2
     returns
     mul-result-3

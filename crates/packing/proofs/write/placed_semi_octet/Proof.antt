@@ -6,14 +6,8 @@ use Rattle.packing.specs.Writing.{numeral}
 use Rattle.packing.proofs.write.placed_semi_octet.Statement.{statement}
 use Rattle.packing.proofs.write.placed_semi_octet.Tie as tie
 
-steps-of-requires : tie.Need-steps-of-requires
-steps-of-requires c κs = search needs
-
 mul-moved : tie.Need-mul-moved
 mul-moved c = search needs
-
-add-moved : tie.Need-add-moved
-add-moved c = search needs
 
 moved-requires : tie.Need-moved-requires
 unfolding numeral
@@ -27,4 +21,4 @@ returns c = c .moved .ensures ∙ ap (λ n. (n % 10 * 16 + n / 10) * 2 ^ c .befo
 
 pub placed-semi-octet-spec : {M : Type 1} → statement M
 placed-semi-octet-spec =
-    tie.close (tie.spec steps-of-requires mul-moved add-moved moved-requires returns)
+    tie.close (tie.spec (λ c κs. search needs) mul-moved (λ c. search needs) moved-requires returns)

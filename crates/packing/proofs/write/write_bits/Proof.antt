@@ -14,12 +14,6 @@ bits-are c =
     let y : SFits w64 (c .before .before .args .c .year) = search needs in
     rw (toZ-ofZ y) at (c .to-bits .ensures)
 
-to-bits-requires : tie.Need-to-bits-requires
-to-bits-requires c κs = search needs
-
-writes-year-requires : tie.Need-writes-year-requires
-writes-year-requires c κs = search needs
-
 pack-bits-requires : tie.Need-pack-bits-requires
 pack-bits-requires c κs =
     let t = c .before .before in
@@ -40,4 +34,4 @@ returns-2 c =
 
 pub write-bits-spec : {M : Type 1} → statement M
 write-bits-spec =
-    tie.close (tie.spec to-bits-requires writes-year-requires pack-bits-requires returns returns-2)
+    tie.close (tie.spec (λ c κs. search needs) (λ c κs. search needs) pack-bits-requires returns returns-2)

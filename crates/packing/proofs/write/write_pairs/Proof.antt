@@ -27,15 +27,6 @@ its-digits c =
     let b = c .before .before .before .args .swapped in
     subst (λ l. l .digits ≡ pairs b) (sym (c .before .before .pair-layout .ensures)) (pair-digits b)
 
-pair-layout-requires : tie.Need-pair-layout-requires
-pair-layout-requires c κs = search needs
-
-to-bits-requires : tie.Need-to-bits-requires
-to-bits-requires c κs = search needs
-
-writes-year-requires : tie.Need-writes-year-requires
-writes-year-requires c κs = search needs
-
 pack-pairs-requires : tie.Need-pack-pairs-requires
 pack-pairs-requires c κs =
     let t = c .before .before in
@@ -58,9 +49,9 @@ pub write-pairs-spec : {M : Type 1} → statement M
 write-pairs-spec =
     tie.close
     (tie.spec
-    pair-layout-requires
-    to-bits-requires
-    writes-year-requires
+    (λ c κs. search needs)
+    (λ c κs. search needs)
+    (λ c κs. search needs)
     pack-pairs-requires
     returns
     returns-2)

@@ -14,12 +14,6 @@ bits-are c =
     let y : SFits w64 (c .before .before .args .c .year) = search needs in
     rw (toZ-ofZ y) at (c .to-bits .ensures)
 
-to-bits-requires : tie.Need-to-bits-requires
-to-bits-requires c κs = search needs
-
-writes-year-requires : tie.Need-writes-year-requires
-writes-year-requires c κs = search needs
-
 pack-semi-octets-requires : tie.Need-pack-semi-octets-requires
 pack-semi-octets-requires c κs =
     let t = c .before .before in
@@ -41,4 +35,4 @@ returns-2 c =
 pub write-semi-octets-spec : {M : Type 1} → statement M
 write-semi-octets-spec =
     tie.close
-    (tie.spec to-bits-requires writes-year-requires pack-semi-octets-requires returns returns-2)
+    (tie.spec (λ c κs. search needs) (λ c κs. search needs) pack-semi-octets-requires returns returns-2)

@@ -11,30 +11,12 @@ use Rattle.registry.specs.Answers.{readPicked}
 use Rattle.registry.proofs.decoding.decode.Statement.{statement}
 use Rattle.registry.proofs.decoding.decode.Tie as tie
 
-pick-requires : tie.Need-pick-requires
-pick-requires c κs = search needs
-
-enum-known-picked : tie.Need-enum-known-picked
-enum-known-picked c = search needs
-
-enum-told : tie.Need-enum-told
-enum-told c = search needs
-
-refusal-requires : tie.Need-refusal-requires
-refusal-requires c κs = search needs
-
 returns : tie.Need-returns
 returns c =
     let k = c .before in
     let p = k .before .before in
     handed-on (λ a. decodeWith a (ofZ w64 (p .before .args .word))) (λ n. refl)
     (sym (p .pick .ensures) ∙ ap readPicked (k .enum-told .given .1)) (c .refusal .ensures ∙ ap refusalIn (p .pick .ensures))
-
-to-bits-requires : tie.Need-to-bits-requires
-to-bits-requires c κs = search needs
-
-decode-bits-requires : tie.Need-decode-bits-requires
-decode-bits-requires c κs = search needs
 
 returns-2 : tie.Need-returns-2
 returns-2 c =
@@ -50,11 +32,11 @@ pub decode-spec : {M : Type 1} → statement M
 decode-spec =
     tie.close
     (tie.spec
-    pick-requires
-    enum-known-picked
-    enum-told
-    refusal-requires
+    (λ c κs. search needs)
+    (λ c. search needs)
+    (λ c. search needs)
+    (λ c κs. search needs)
     returns
-    to-bits-requires
-    decode-bits-requires
+    (λ c κs. search needs)
+    (λ c κs. search needs)
     returns-2)

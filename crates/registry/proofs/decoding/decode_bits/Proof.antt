@@ -5,24 +5,6 @@ use Rattle.registry.specs.Words.{decodeBy}
 use Rattle.registry.proofs.decoding.decode_bits.Statement.{statement}
 use Rattle.registry.proofs.decoding.decode_bits.Tie as tie
 
-enum-known-rule : tie.Need-enum-known-rule
-enum-known-rule c = search needs
-
-decode-kind-requires : tie.Need-decode-kind-requires
-decode-kind-requires c κs = search needs
-
-enum-told : tie.Need-enum-told
-enum-told c = search needs
-
-decode-nokia-requires : tie.Need-decode-nokia-requires
-decode-nokia-requires c κs = search needs
-
-enum-told-2 : tie.Need-enum-told-2
-enum-told-2 c = search needs
-
-decode-sql-requires : tie.Need-decode-sql-requires
-decode-sql-requires c κs = search needs
-
 returns : tie.Need-returns
 returns c = c .decode-kind .ensures ∙ ap (λ r. decodeBy r (c .before .before .before .before .args .bits)) (sym (c .before .before .rule .given .1))
 
@@ -36,12 +18,12 @@ pub decode-bits-spec : {M : Type 1} → statement M
 decode-bits-spec =
     tie.close
     (tie.spec
-    enum-known-rule
-    decode-kind-requires
-    enum-told
-    decode-nokia-requires
-    enum-told-2
-    decode-sql-requires
+    (λ c. search needs)
+    (λ c κs. search needs)
+    (λ c. search needs)
+    (λ c κs. search needs)
+    (λ c. search needs)
+    (λ c κs. search needs)
     returns
     returns-2
     returns-3)

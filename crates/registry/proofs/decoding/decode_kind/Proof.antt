@@ -22,18 +22,6 @@ use Rattle.registry.specs.Words.{secondsIn, localDecode, inZone, thenZon
 use Rattle.registry.proofs.decoding.decode_kind.Statement.{statement}
 use Rattle.registry.proofs.decoding.decode_kind.Tie as tie
 
-read-kind-requires : tie.Need-read-kind-requires
-read-kind-requires c κs = search needs
-
-enum-known-read : tie.Need-enum-known-read
-enum-known-read c = search needs
-
-enum-told : tie.Need-enum-told
-enum-told c = search needs
-
-refusal-requires : tie.Need-refusal-requires
-refusal-requires c κs = search needs
-
 returns : tie.Need-returns
 unfolding fieldsDecode localDecode
 returns c =
@@ -42,18 +30,6 @@ returns c =
     let s = r .before .args in
     handed-on (λ a. thenZone (layoutFor (s .kind) .zoned) (s .bits % 256) (atNanos 0 (secondsIn a))) (λ n. refl)
     (sym (r .read-kind .ensures) ∙ ap readFields (k .enum-told .given .1)) (c .refusal .ensures ∙ ap refusalIn (r .read-kind .ensures))
-
-seconds-of-requires : tie.Need-seconds-of-requires
-seconds-of-requires c κs = search needs
-
-enum-known-found : tie.Need-enum-known-found
-enum-known-found c = search needs
-
-enum-told-2 : tie.Need-enum-told-2
-enum-told-2 c = search needs
-
-refusal-requires-2 : tie.Need-refusal-requires-2
-refusal-requires-2 c κs = search needs
 
 -- what the calendar answered about the fields
 answered : (c : tie.After-seconds-of) → let s = c .before .before .before .before .before .args in readSeconds (c .seconds-of .result) ≡ secondsIn (readBy (layoutFor (s .kind)) (s .bits))
@@ -69,9 +45,6 @@ returns-2 c =
     let s = q .before .before .before .before .before .args in
     handed-on (λ a. thenZone (layoutFor (s .kind) .zoned) (s .bits % 256) (atNanos 0 a)) (λ n. refl)
     (sym (answered q) ∙ ap readSeconds (k .enum-told2 .given .1)) (c .refusal2 .ensures ∙ ap refusalIn (answered q))
-
-at-second-requires : tie.Need-at-second-requires
-at-second-requires c κs = search needs
 
 -- the local instant, by its seconds, and as the definition has it
 local : (c : tie.After-at-second) → c .at-second .result ≡ at (c .before .before .found .given .0 .0) 0
@@ -91,9 +64,6 @@ small c =
     let q = f .before .before in
     subst (λ (t : Instant). mag (t .seconds) < 2 ^ 39) (sym (local c))
     (small-seconds (q .before .before .read .given .0 .0) (sym (ap readSeconds (f .found .given .1)) ∙ q .seconds-of .ensures))
-
-layout-of-requires : tie.Need-layout-of-requires
-layout-of-requires c κs = search needs
 
 less-zone-requires : tie.Need-less-zone-requires
 less-zone-requires c κs = (omega arith, small (c .before .before))
@@ -117,18 +87,18 @@ pub decode-kind-spec : {M : Type 1} → statement M
 decode-kind-spec =
     tie.close
     (tie.spec
-    read-kind-requires
-    enum-known-read
-    enum-told
-    refusal-requires
+    (λ c κs. search needs)
+    (λ c. search needs)
+    (λ c. search needs)
+    (λ c κs. search needs)
     returns
-    seconds-of-requires
-    enum-known-found
-    enum-told-2
-    refusal-requires-2
+    (λ c κs. search needs)
+    (λ c. search needs)
+    (λ c. search needs)
+    (λ c κs. search needs)
     returns-2
-    at-second-requires
-    layout-of-requires
+    (λ c κs. search needs)
+    (λ c κs. search needs)
     less-zone-requires
     returns-3
     returns-4)

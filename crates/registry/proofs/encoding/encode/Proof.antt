@@ -8,27 +8,12 @@ use Rattle.registry.specs.Answers.{readPicked}
 use Rattle.registry.proofs.encoding.encode.Statement.{statement}
 use Rattle.registry.proofs.encoding.encode.Tie as tie
 
-pick-requires : tie.Need-pick-requires
-pick-requires c κs = search needs
-
-enum-known-picked : tie.Need-enum-known-picked
-enum-known-picked c = search needs
-
-enum-told : tie.Need-enum-told
-enum-told c = search needs
-
-refusal-requires : tie.Need-refusal-requires
-refusal-requires c κs = search needs
-
 returns : tie.Need-returns
 returns c =
     let k = c .before in
     let p = k .before .before in
     handed-on (λ a. encodeWith a (p .before .args .instant)) (λ n. refl)
     (sym (p .pick .ensures) ∙ ap readPicked (k .enum-told .given .1)) (c .refusal .ensures ∙ ap refusalIn (p .pick .ensures))
-
-encode-by-requires : tie.Need-encode-by-requires
-encode-by-requires c κs = search needs
 
 returns-2 : tie.Need-returns-2
 returns-2 c =
@@ -40,10 +25,10 @@ pub encode-spec : {M : Type 1} → statement M
 encode-spec =
     tie.close
     (tie.spec
-    pick-requires
-    enum-known-picked
-    enum-told
-    refusal-requires
+    (λ c κs. search needs)
+    (λ c. search needs)
+    (λ c. search needs)
+    (λ c κs. search needs)
     returns
-    encode-by-requires
+    (λ c κs. search needs)
     returns-2)

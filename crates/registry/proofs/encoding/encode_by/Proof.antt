@@ -5,24 +5,6 @@ use Rattle.registry.specs.Words.{encodeBy}
 use Rattle.registry.proofs.encoding.encode_by.Statement.{statement}
 use Rattle.registry.proofs.encoding.encode_by.Tie as tie
 
-enum-known-rule : tie.Need-enum-known-rule
-enum-known-rule c = search needs
-
-encode-kind-requires : tie.Need-encode-kind-requires
-encode-kind-requires c κs = search needs
-
-enum-told : tie.Need-enum-told
-enum-told c = search needs
-
-encode-nokia-requires : tie.Need-encode-nokia-requires
-encode-nokia-requires c κs = search needs
-
-enum-told-2 : tie.Need-enum-told-2
-enum-told-2 c = search needs
-
-encode-sql-requires : tie.Need-encode-sql-requires
-encode-sql-requires c κs = search needs
-
 returns : tie.Need-returns
 returns c = c .encode-kind .ensures ∙ ap (λ r. encodeBy r (c .before .before .before .before .args .instant)) (sym (c .before .before .rule .given .1))
 
@@ -36,12 +18,12 @@ pub encode-by-spec : {M : Type 1} → statement M
 encode-by-spec =
     tie.close
     (tie.spec
-    enum-known-rule
-    encode-kind-requires
-    enum-told
-    encode-nokia-requires
-    enum-told-2
-    encode-sql-requires
+    (λ c. search needs)
+    (λ c κs. search needs)
+    (λ c. search needs)
+    (λ c κs. search needs)
+    (λ c. search needs)
+    (λ c κs. search needs)
     returns
     returns-2
     returns-3)

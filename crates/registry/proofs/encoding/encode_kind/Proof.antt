@@ -17,9 +17,6 @@ returns : tie.Need-returns
 unfolding fieldsEncode
 returns c = let s = c .before .before in sym (no-nanos (s .args .t) (writeFields (layoutFor (s .args .kind)) (fieldsFor (s .args .t .seconds))) (c .if1 .taken))
 
-word-of-requires : tie.Need-word-of-requires
-word-of-requires c κs = search needs
-
 returns-2 : tie.Need-returns-2
 unfolding fieldsEncode
 returns-2 c =
@@ -29,4 +26,4 @@ returns-2 c =
     rw (le-leb (s .args .t .nanos) 999999999 (o .if1 .left)) (rw (toZ-ofZ z) at (c .word-of .ensures))
 
 pub encode-kind-spec : {M : Type 1} → statement M
-encode-kind-spec = tie.close (tie.spec returns word-of-requires returns-2)
+encode-kind-spec = tie.close (tie.spec returns (λ c κs. search needs) returns-2)

@@ -16,15 +16,6 @@ use Rattle.registry.proofs.zone.less_zone.Tie as tie
 returns : tie.Need-returns
 returns c = let s = c .before .args in sym (no-zone (s .zone) (s .local) (c .if1 .taken))
 
-mul-offset : tie.Need-mul-offset
-mul-offset c = search needs
-
-add-offset : tie.Need-add-offset
-add-offset c = search needs
-
-mul-offset-2 : tie.Need-mul-offset-2
-mul-offset-2 c = search needs
-
 cast-offset : tie.Need-cast-offset
 cast-offset c = search needs
 
@@ -44,9 +35,6 @@ more c = let s = c .before .args in sum-fits (s .local .seconds) (pos (zoneSize 
 sub-new : tie.Need-sub-new
 sub-new c = let e = c .before .before in rw (seconds e, offset e) (less e)
 
-new-requires : tie.Need-new-requires
-new-requires c κs = search needs
-
 returns-2 : tie.Need-returns-2
 returns-2 c =
     let e = c .before .before .before in
@@ -55,9 +43,6 @@ returns-2 c =
 
 add-new : tie.Need-add-new
 add-new c = let e = c .before .before in rw (seconds e, offset e) (more e)
-
-new-requires-2 : tie.Need-new-requires-2
-new-requires-2 c κs = search needs
 
 returns-3 : tie.Need-returns-3
 returns-3 c =
@@ -70,13 +55,13 @@ less-zone-spec =
     tie.close
     (tie.spec
     returns
-    mul-offset
-    add-offset
-    mul-offset-2
+    (λ c. search needs)
+    (λ c. search needs)
+    (λ c. search needs)
     cast-offset
     sub-new
-    new-requires
+    (λ c κs. search needs)
     returns-2
     add-new
-    new-requires-2
+    (λ c κs. search needs)
     returns-3)

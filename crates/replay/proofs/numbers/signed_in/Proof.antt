@@ -15,15 +15,6 @@ narrow : (z : ℤ) → ltZ z (negsuc 2147483647) ≡ false → ltZ (pos 21474836
 narrow (pos n) above below = record { sfits = omega (arith, ltb-false 2147483647 n below) }
 narrow (negsuc n) above below = record { sfits = omega (arith, ltb-false 2147483647 n above) }
 
-number-in-requires : tie.Need-number-in-requires
-number-in-requires c κs = search needs
-
-enum-known-found : tie.Need-enum-known-found
-enum-known-found c = search needs
-
-enum-told : tie.Need-enum-told
-enum-told c = search needs
-
 returns : tie.Need-returns
 returns c = search needs
 
@@ -42,4 +33,4 @@ returns-4 c = search needs
 pub signed-in-spec : {M : Type 1} → statement M
 signed-in-spec =
     tie.close
-    (tie.spec number-in-requires enum-known-found enum-told returns returns-2 returns-3 cast-t5 returns-4)
+    (tie.spec (λ c κs. search needs) (λ c. search needs) (λ c. search needs) returns returns-2 returns-3 cast-t5 returns-4)

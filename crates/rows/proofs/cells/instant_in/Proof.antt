@@ -14,18 +14,9 @@ use Rattle.instant.specs.Instants.{at}
 use Rattle.rows.proofs.cells.instant_in.Statement.{statement}
 use Rattle.rows.proofs.cells.instant_in.Tie as tie
 
-get64-requires : tie.Need-get64-requires
-get64-requires c κs = search needs
-
-from-bits-requires : tie.Need-from-bits-requires
-from-bits-requires c κs = search needs
-
 -- the seconds, as the machine reads them back
 seconds : (c : tie.After-from-bits) → toZ w64 (ofZ w64 (c .from-bits .result)) ≡ toZ w64 (numberOf (take 8 (now (c .before .before .before .args .row))))
 seconds c = toZ-ofZ {w = w64} (record { sfits = c .from-bits .ok }) ∙ c .from-bits .ensures ∙ ap (toZ w64) (c .before .get64 .ensures)
-
-new-requires : tie.Need-new-requires
-new-requires c κs = search needs
 
 returns : tie.Need-returns
 unfolding numberOf
@@ -35,21 +26,6 @@ returns c =
     let l : length row ≤ 8 = omega (arith, c .before .if1 .taken) in
     let z : 0 ≡ numberOf (take 4 (drop 8 row)) = rw (drop-of-length-le row l) refl in
     c .new .ensures ∙ (λ i. at (seconds b i) (z i))
-
-sub-get32 : tie.Need-sub-get32
-sub-get32 c = search needs
-
-part-get32-start : tie.Need-part-get32-start
-part-get32-start c = search needs
-
-part-get32-end : tie.Need-part-get32-end
-part-get32-end c = search needs
-
-get32-requires : tie.Need-get32-requires
-get32-requires c κs = search needs
-
-new-requires-2 : tie.Need-new-requires-2
-new-requires-2 c κs = search needs
 
 returns-2 : tie.Need-returns-2
 returns-2 c =
@@ -62,13 +38,13 @@ pub instant-in-spec : {M : Type 1} → statement M
 instant-in-spec =
     tie.close
     (tie.spec
-    get64-requires
-    from-bits-requires
-    new-requires
+    (λ c κs. search needs)
+    (λ c κs. search needs)
+    (λ c κs. search needs)
     returns
-    sub-get32
-    part-get32-start
-    part-get32-end
-    get32-requires
-    new-requires-2
+    (λ c. search needs)
+    (λ c. search needs)
+    (λ c. search needs)
+    (λ c κs. search needs)
+    (λ c κs. search needs)
     returns-2)

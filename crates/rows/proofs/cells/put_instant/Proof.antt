@@ -22,35 +22,8 @@ returns c =
     let s = c .before .before .args in
     sym (over-kept (s .row .now) (instantBytes (s .t)) (row-lengths .0 (s .t)) (c .if1 .taken))
 
-slice-relend-prefix-put : tie.Need-slice-relend-prefix-put
-slice-relend-prefix-put c = search needs
-
 slice-aggregate-put : tie.Need-slice-aggregate-put
 slice-aggregate-put c = sym (length-take-le 8 (c .before .before .before .args .row .now) (omega arith))
-
-to-bits-requires : tie.Need-to-bits-requires
-to-bits-requires c κs = search needs
-
-put-requires : tie.Need-put-requires
-put-requires c κs = search needs
-
-sub-put : tie.Need-sub-put
-sub-put c = search needs
-
-part-put-start : tie.Need-part-put-start
-part-put-start c = search needs
-
-part-put-end : tie.Need-part-put-end
-part-put-end c = search needs
-
-cast-put : tie.Need-cast-put
-cast-put c = search needs
-
-put-requires-2 : tie.Need-put-requires-2
-put-requires-2 c κs = search needs
-
-same-length : tie.Need-same-length
-same-length c = search needs
 
 returns-2 : tie.Need-returns-2
 returns-2 c =
@@ -74,14 +47,14 @@ put-instant-spec =
     tie.close
     (tie.spec
     returns
-    slice-relend-prefix-put
+    (λ c. search needs)
     slice-aggregate-put
-    to-bits-requires
-    put-requires
-    sub-put
-    part-put-start
-    part-put-end
-    cast-put
-    put-requires-2
-    same-length
+    (λ c κs. search needs)
+    (λ c κs. search needs)
+    (λ c. search needs)
+    (λ c. search needs)
+    (λ c. search needs)
+    (λ c. search needs)
+    (λ c κs. search needs)
+    (λ c. search needs)
     returns-2)

@@ -14,15 +14,6 @@ returns c =
     let s = c .before .before .args in
     sym (over-kept (s .row .now) (wordBytes (s .word)) (row-lengths .1 (s .word)) (c .if1 .taken))
 
-to-bits-requires : tie.Need-to-bits-requires
-to-bits-requires c κs = search needs
-
-put-requires : tie.Need-put-requires
-put-requires c κs = search needs
-
-same-length : tie.Need-same-length
-same-length c = search needs
-
 returns-2 : tie.Need-returns-2
 returns-2 c =
     let p = c .before .before in
@@ -34,4 +25,4 @@ returns-2 c =
     p .put .ensures ∙ (λ i. bytesOf (l i) (n i)) ∙ sym (over-placed (s .args .row .now) (wordBytes (s .args .word)) (row-lengths .1 (s .args .word)) l)
 
 pub put-word-spec : {M : Type 1} → statement M
-put-word-spec = tie.close (tie.spec returns to-bits-requires put-requires same-length returns-2)
+put-word-spec = tie.close (tie.spec returns (λ c κs. search needs) (λ c κs. search needs) (λ c. search needs) returns-2)

@@ -8,92 +8,38 @@ use Rattle.unpacking.specs.Reading.{inRange}
 use Rattle.unpacking.proofs.kinds.read_kind.Statement.{statement}
 use Rattle.unpacking.proofs.kinds.read_kind.Tie as tie
 
-enum-told : tie.Need-enum-told
-enum-told c = search needs
-
 read-bits-requires : tie.Need-read-bits-requires
 read-bits-requires c κs = (omega arith, refl)
-
-enum-told-2 : tie.Need-enum-told-2
-enum-told-2 c = search needs
 
 read-bits-requires-2 : tie.Need-read-bits-requires-2
 read-bits-requires-2 c κs = (omega arith, refl)
 
-enum-told-3 : tie.Need-enum-told-3
-enum-told-3 c = search needs
-
 read-bits-requires-3 : tie.Need-read-bits-requires-3
 read-bits-requires-3 c κs = (omega arith, refl)
-
-enum-told-4 : tie.Need-enum-told-4
-enum-told-4 c = search needs
-
-reverse-requires : tie.Need-reverse-requires
-reverse-requires c κs = search needs
 
 read-bits-requires-4 : tie.Need-read-bits-requires-4
 read-bits-requires-4 c κs = (omega arith, refl)
 
-enum-told-5 : tie.Need-enum-told-5
-enum-told-5 c = search needs
-
 read-bits-requires-5 : tie.Need-read-bits-requires-5
 read-bits-requires-5 c κs = (omega arith, refl)
-
-enum-told-6 : tie.Need-enum-told-6
-enum-told-6 c = search needs
-
-read-pairs-requires : tie.Need-read-pairs-requires
-read-pairs-requires c κs = search needs
-
-enum-told-7 : tie.Need-enum-told-7
-enum-told-7 c = search needs
 
 read-bits-requires-6 : tie.Need-read-bits-requires-6
 read-bits-requires-6 c κs = (omega arith, refl)
 
-enum-told-8 : tie.Need-enum-told-8
-enum-told-8 c = search needs
-
 read-bits-requires-7 : tie.Need-read-bits-requires-7
 read-bits-requires-7 c κs = (omega arith, refl)
-
-enum-told-9 : tie.Need-enum-told-9
-enum-told-9 c = search needs
 
 read-bits-requires-8 : tie.Need-read-bits-requires-8
 read-bits-requires-8 c κs = (omega arith, refl)
 
-enum-told-10 : tie.Need-enum-told-10
-enum-told-10 c = search needs
-
 read-bits-requires-9 : tie.Need-read-bits-requires-9
 read-bits-requires-9 c κs = (omega arith, refl)
-
-enum-told-11 : tie.Need-enum-told-11
-enum-told-11 c = search needs
-
-swap-year-requires : tie.Need-swap-year-requires
-swap-year-requires c κs = search needs
 
 read-bits-requires-10 : tie.Need-read-bits-requires-10
 read-bits-requires-10 c κs = (omega arith, refl)
 
-enum-told-12 : tie.Need-enum-told-12
-enum-told-12 c = search needs
-
 read-bits-requires-11 : tie.Need-read-bits-requires-11
 read-bits-requires-11 c κs = (omega arith, refl)
-
-enum-told-13 : tie.Need-enum-told-13
-enum-told-13 c = search needs
-
-read-pairs-requires-2 : tie.Need-read-pairs-requires-2
-read-pairs-requires-2 c κs = search needs
-
-enum-told-14 : tie.Need-enum-told-14
-enum-told-14 c = search needs
 
 read-semi-octets-requires : tie.Need-read-semi-octets-requires
 read-semi-octets-requires c κs = (omega arith, refl)
@@ -158,35 +104,35 @@ pub read-kind-spec : {M : Type 1} → statement M
 read-kind-spec =
     tie.close
     (tie.spec
-    enum-told
+    (λ c. search needs)
     read-bits-requires
-    enum-told-2
+    (λ c. search needs)
     read-bits-requires-2
-    enum-told-3
+    (λ c. search needs)
     read-bits-requires-3
-    enum-told-4
-    reverse-requires
+    (λ c. search needs)
+    (λ c κs. search needs)
     read-bits-requires-4
-    enum-told-5
+    (λ c. search needs)
     read-bits-requires-5
-    enum-told-6
-    read-pairs-requires
-    enum-told-7
+    (λ c. search needs)
+    (λ c κs. search needs)
+    (λ c. search needs)
     read-bits-requires-6
-    enum-told-8
+    (λ c. search needs)
     read-bits-requires-7
-    enum-told-9
+    (λ c. search needs)
     read-bits-requires-8
-    enum-told-10
+    (λ c. search needs)
     read-bits-requires-9
-    enum-told-11
-    swap-year-requires
+    (λ c. search needs)
+    (λ c κs. search needs)
     read-bits-requires-10
-    enum-told-12
+    (λ c. search needs)
     read-bits-requires-11
-    enum-told-13
-    read-pairs-requires-2
-    enum-told-14
+    (λ c. search needs)
+    (λ c κs. search needs)
+    (λ c. search needs)
     read-semi-octets-requires
     returns
     returns-2

@@ -8,9 +8,6 @@ use native.Mathlib.Omega.{arith}
 use Rattle.unpacking.proofs.read.bits_at.Statement.{statement}
 use Rattle.unpacking.proofs.read.bits_at.Tie as tie
 
-cut-requires : tie.Need-cut-requires
-cut-requires c κs = search needs
-
 small : (c : tie.After-cut) → let s = c .before .args in s .f .offset + c .cut .result * s .f .step < 4294967296
 small c =
     let s = c .before in
@@ -30,4 +27,4 @@ returns c =
     (ap (λ n. s .f .offset + n * s .f .step) (c .before .before .cut .ensures), small (c .before .before))
 
 pub bits-at-spec : {M : Type 1} → statement M
-bits-at-spec = tie.close (tie.spec cut-requires mul-result add-result returns)
+bits-at-spec = tie.close (tie.spec (λ c κs. search needs) mul-result add-result returns)

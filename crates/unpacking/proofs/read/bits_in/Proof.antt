@@ -9,27 +9,6 @@ use native.Mathlib.Omega.{arith}
 use Rattle.unpacking.proofs.read.bits_in.Statement.{statement}
 use Rattle.unpacking.proofs.read.bits_in.Tie as tie
 
-bits-at-requires : tie.Need-bits-at-requires
-bits-at-requires c κs = search needs
-
-cast-year : tie.Need-cast-year
-cast-year c = search needs
-
-bits-at-requires-2 : tie.Need-bits-at-requires-2
-bits-at-requires-2 c κs = search needs
-
-bits-at-requires-3 : tie.Need-bits-at-requires-3
-bits-at-requires-3 c κs = search needs
-
-bits-at-requires-4 : tie.Need-bits-at-requires-4
-bits-at-requires-4 c κs = search needs
-
-bits-at-requires-5 : tie.Need-bits-at-requires-5
-bits-at-requires-5 c κs = search needs
-
-bits-at-requires-6 : tie.Need-bits-at-requires-6
-bits-at-requires-6 c κs = search needs
-
 returns : tie.Need-returns
 returns c =
     let s = c .before .before .before .before .before .before in
@@ -42,11 +21,11 @@ pub bits-in-spec : {M : Type 1} → statement M
 bits-in-spec =
     tie.close
     (tie.spec
-    bits-at-requires
-    cast-year
-    bits-at-requires-2
-    bits-at-requires-3
-    bits-at-requires-4
-    bits-at-requires-5
-    bits-at-requires-6
+    (λ c κs. search needs)
+    (λ c. search needs)
+    (λ c κs. search needs)
+    (λ c κs. search needs)
+    (λ c κs. search needs)
+    (λ c κs. search needs)
+    (λ c κs. search needs)
     returns)

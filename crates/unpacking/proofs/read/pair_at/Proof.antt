@@ -13,12 +13,6 @@ use Rattle.unpacking.proofs.read.pair_at.Tie as tie
 pair-requires : tie.Need-pair-requires
 pair-requires c κs = pair-places (c .args .swapped) (c .args .f) (c .pre .places) .0
 
-mul-result : tie.Need-mul-result
-mul-result c = search needs
-
-add-result : tie.Need-add-result
-add-result c = search needs
-
 below : (c : tie.After-pair) → c .pair .result < 100
 below c = rw (c .pair .ensures) (omega arith)
 
@@ -68,8 +62,8 @@ pair-at-spec =
     tie.close
     (tie.spec
     pair-requires
-    mul-result
-    add-result
+    (λ c. search needs)
+    (λ c. search needs)
     mul-result-2
     add-result-2
     returns

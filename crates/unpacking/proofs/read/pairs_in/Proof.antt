@@ -9,27 +9,6 @@ use native.Mathlib.Omega.{arith}
 use Rattle.unpacking.proofs.read.pairs_in.Statement.{statement}
 use Rattle.unpacking.proofs.read.pairs_in.Tie as tie
 
-pair-at-requires : tie.Need-pair-at-requires
-pair-at-requires c κs = search needs
-
-cast-year : tie.Need-cast-year
-cast-year c = search needs
-
-pair-at-requires-2 : tie.Need-pair-at-requires-2
-pair-at-requires-2 c κs = search needs
-
-pair-at-requires-3 : tie.Need-pair-at-requires-3
-pair-at-requires-3 c κs = search needs
-
-pair-at-requires-4 : tie.Need-pair-at-requires-4
-pair-at-requires-4 c κs = search needs
-
-pair-at-requires-5 : tie.Need-pair-at-requires-5
-pair-at-requires-5 c κs = search needs
-
-pair-at-requires-6 : tie.Need-pair-at-requires-6
-pair-at-requires-6 c κs = search needs
-
 returns : tie.Need-returns
 returns c =
     let s = c .before .before .before .before .before .before in
@@ -42,11 +21,11 @@ pub pairs-in-spec : {M : Type 1} → statement M
 pairs-in-spec =
     tie.close
     (tie.spec
-    pair-at-requires
-    cast-year
-    pair-at-requires-2
-    pair-at-requires-3
-    pair-at-requires-4
-    pair-at-requires-5
-    pair-at-requires-6
+    (λ c κs. search needs)
+    (λ c. search needs)
+    (λ c κs. search needs)
+    (λ c κs. search needs)
+    (λ c κs. search needs)
+    (λ c κs. search needs)
+    (λ c κs. search needs)
     returns)

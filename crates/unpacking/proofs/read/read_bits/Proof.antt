@@ -9,11 +9,8 @@ use Rattle.unpacking.proofs.read.read_bits.Tie as tie
 returns : tie.Need-returns
 returns c = rw (le-ltb _ _ (c .if1 .taken))
 
-bits-in-requires : tie.Need-bits-in-requires
-bits-in-requires c κs = search needs
-
 returns-2 : tie.Need-returns-2
 returns-2 c = rw (lt-ltb _ _ (c .before .if1 .left)) (ap gives (c .bits-in .ensures))
 
 pub read-bits-spec : {M : Type 1} → statement M
-read-bits-spec = tie.close (tie.spec returns bits-in-requires returns-2)
+read-bits-spec = tie.close (tie.spec returns (λ c κs. search needs) returns-2)

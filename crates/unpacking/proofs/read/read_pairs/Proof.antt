@@ -9,9 +9,6 @@ use Rattle.unpacking.proofs.Sound.{pair-sound}
 use Rattle.unpacking.proofs.read.read_pairs.Statement.{statement}
 use Rattle.unpacking.proofs.read.read_pairs.Tie as tie
 
-pair-layout-requires : tie.Need-pair-layout-requires
-pair-layout-requires c κs = search needs
-
 returns : tie.Need-returns
 returns c = rw (← c .before .before .pair-layout .ensures, le-ltb _ _ (c .if1 .taken))
 
@@ -24,4 +21,4 @@ returns-2 : tie.Need-returns-2
 returns-2 c = rw (← c .before .before .before .pair-layout .ensures, lt-ltb _ _ (c .before .if1 .left)) (ap gives (c .pairs-in .ensures))
 
 pub read-pairs-spec : {M : Type 1} → statement M
-read-pairs-spec = tie.close (tie.spec pair-layout-requires returns pairs-in-requires returns-2)
+read-pairs-spec = tie.close (tie.spec (λ c κs. search needs) returns pairs-in-requires returns-2)

@@ -9,11 +9,8 @@ use Rattle.unpacking.proofs.read.read_semi_octets.Tie as tie
 returns : tie.Need-returns
 returns c = rw (le-ltb _ _ (c .if1 .taken))
 
-semi-octets-in-requires : tie.Need-semi-octets-in-requires
-semi-octets-in-requires c κs = search needs
-
 returns-2 : tie.Need-returns-2
 returns-2 c = rw (lt-ltb _ _ (c .before .if1 .left)) (ap gives (c .semi-octets-in .ensures))
 
 pub read-semi-octets-spec : {M : Type 1} → statement M
-read-semi-octets-spec = tie.close (tie.spec returns semi-octets-in-requires returns-2)
+read-semi-octets-spec = tie.close (tie.spec returns (λ c κs. search needs) returns-2)

@@ -9,15 +9,6 @@ use native.Mathlib.Omega.{arith}
 use Rattle.unpacking.proofs.read.semi_octet_at.Statement.{statement}
 use Rattle.unpacking.proofs.read.semi_octet_at.Tie as tie
 
-cut-requires : tie.Need-cut-requires
-cut-requires c κs = search needs
-
-mul-v : tie.Need-mul-v
-mul-v c = search needs
-
-add-v : tie.Need-add-v
-add-v c = search needs
-
 small : (c : tie.After-cut) → let s = c .before .args in s .f .offset + semi (c .cut .result) * s .f .step < 4294967296
 small c =
     let s = c .before in
@@ -42,9 +33,6 @@ returns-2 c =
     let n = c .before .before .cut .result in
     rw (← c .before .before .cut .ensures, lt-ltb 127 (semi n) (c .before .if1 .left), eq-eqb (c .before .before .before .args .f .offset) 0 (c .if2 .taken)) (refl, omega arith)
 
-sub-result : tie.Need-sub-result
-sub-result c = search needs
-
 returns-3 : tie.Need-returns-3
 unfolding valueOf
 returns-3 c =
@@ -56,12 +44,12 @@ pub semi-octet-at-spec : {M : Type 1} → statement M
 semi-octet-at-spec =
     tie.close
     (tie.spec
-    cut-requires
-    mul-v
-    add-v
+    (λ c κs. search needs)
+    (λ c. search needs)
+    (λ c. search needs)
     mul-result
     add-result
     returns
     returns-2
-    sub-result
+    (λ c. search needs)
     returns-3)

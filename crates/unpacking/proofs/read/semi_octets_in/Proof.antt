@@ -9,27 +9,6 @@ use native.Mathlib.Omega.{arith}
 use Rattle.unpacking.proofs.read.semi_octets_in.Statement.{statement}
 use Rattle.unpacking.proofs.read.semi_octets_in.Tie as tie
 
-semi-octet-at-requires : tie.Need-semi-octet-at-requires
-semi-octet-at-requires c κs = search needs
-
-cast-year : tie.Need-cast-year
-cast-year c = search needs
-
-semi-octet-at-requires-2 : tie.Need-semi-octet-at-requires-2
-semi-octet-at-requires-2 c κs = search needs
-
-semi-octet-at-requires-3 : tie.Need-semi-octet-at-requires-3
-semi-octet-at-requires-3 c κs = search needs
-
-semi-octet-at-requires-4 : tie.Need-semi-octet-at-requires-4
-semi-octet-at-requires-4 c κs = search needs
-
-semi-octet-at-requires-5 : tie.Need-semi-octet-at-requires-5
-semi-octet-at-requires-5 c κs = search needs
-
-semi-octet-at-requires-6 : tie.Need-semi-octet-at-requires-6
-semi-octet-at-requires-6 c κs = search needs
-
 returns : tie.Need-returns
 returns c =
     let s = c .before .before .before .before .before .before in
@@ -42,11 +21,11 @@ pub semi-octets-in-spec : {M : Type 1} → statement M
 semi-octets-in-spec =
     tie.close
     (tie.spec
-    semi-octet-at-requires
-    cast-year
-    semi-octet-at-requires-2
-    semi-octet-at-requires-3
-    semi-octet-at-requires-4
-    semi-octet-at-requires-5
-    semi-octet-at-requires-6
+    (λ c κs. search needs)
+    (λ c. search needs)
+    (λ c κs. search needs)
+    (λ c κs. search needs)
+    (λ c κs. search needs)
+    (λ c κs. search needs)
+    (λ c κs. search needs)
     returns)

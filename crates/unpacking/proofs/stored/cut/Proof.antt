@@ -5,12 +5,6 @@ use Rattle.layouts.proofs.Powers.{one-up}
 use Rattle.unpacking.proofs.stored.cut.Statement.{statement}
 use Rattle.unpacking.proofs.stored.cut.Tie as tie
 
-shr-result : tie.Need-shr-result
-shr-result c = search needs
-
-shl-result : tie.Need-shl-result
-shl-result c = search needs
-
 rem-result : tie.Need-rem-result
 rem-result c = rw (one-up (c .args .width) (c .pre .1)) (pow-pos (c .args .width))
 
@@ -18,4 +12,4 @@ returns : tie.Need-returns
 returns c = rw (one-up (c .args .width) (c .pre .1))
 
 pub cut-spec : {M : Type 1} → statement M
-cut-spec = tie.close (tie.spec shr-result shl-result rem-result returns)
+cut-spec = tie.close (tie.spec (λ c. search needs) (λ c. search needs) rem-result returns)

@@ -8,23 +8,14 @@ use Rattle.layouts.proofs.SixPairs.{counts}
 use Rattle.unpacking.proofs.stored.pair.Statement.{statement}
 use Rattle.unpacking.proofs.stored.pair.Tie as tie
 
-hundreds-requires : tie.Need-hundreds-requires
-hundreds-requires c κs = search needs
-
 count : (c : tie.After-hundreds) → c .hundreds .result ≡ 100 ^ c .before .args .k
 count c = c .hundreds .ensures ∙ counts (c .before .args .k) (c .before .pre)
 
 div-rest : tie.Need-div-rest
 div-rest c = rw (count c) (one-le-pow (c .before .args .k) 100 (omega arith))
 
-mul-result : tie.Need-mul-result
-mul-result c = search needs
-
-add-result : tie.Need-add-result
-add-result c = search needs
-
 returns : tie.Need-returns
 returns c = rw (count c) (omega arith)
 
 pub pair-spec : {M : Type 1} → statement M
-pair-spec = tie.close (tie.spec hundreds-requires div-rest mul-result add-result returns)
+pair-spec = tie.close (tie.spec (λ c κs. search needs) div-rest (λ c. search needs) (λ c. search needs) returns)

@@ -22,24 +22,15 @@ cast-year-of c = raises-day (c .fits .number) (c .pre) .cast
 year-of-requires : tie.Need-year-of-requires
 year-of-requires c κs = rw (raises-day (c .fits .number) (c .pre) .is) (days-most (c .args .number) (c .pre))
 
-is-leap-requires : tie.Need-is-leap-requires
-is-leap-requires c κs = search needs
-
 month-of-requires : tie.Need-month-of-requires
 unfolding yearDays
 month-of-requires c κs = omega (arith, c .before .year-of .ensures .short, ap (λ b. daysOfMonths b 12) (c .is-leap .ensures))
-
-cast-t4 : tie.Need-cast-t4
-cast-t4 c = search needs
 
 year : (c : tie.After-year-of) → Lowers w64 (c .year-of .result .whole) 10000
 year c = lowers w64 (c .year-of .result .whole) 10000 (omega (arith, c .year-of .ensures .year)) (omega arith)
 
 sub-t7 : tie.Need-sub-t7
 sub-t7 c = year (c .before .before .before) .fits
-
-add-t5 : tie.Need-add-t5
-add-t5 c = search needs
 
 found : (c : tie.After-month-of) → let y = c .before .before .year-of .result in InMonth (leap (yearAt (y .whole))) (y .left) (c .month-of .result .whole) (c .month-of .result .left)
 found c =
@@ -67,10 +58,10 @@ date-of-spec =
     add-year-of
     cast-year-of
     year-of-requires
-    is-leap-requires
+    (λ c κs. search needs)
     month-of-requires
-    cast-t4
+    (λ c. search needs)
     sub-t7
-    add-t5
+    (λ c. search needs)
     add-t8
     returns)

@@ -30,9 +30,6 @@ years c = rw (toZ-ofZ (c .before .fits .year)) at (c .years-to .ensures)
 days-before-year-requires : tie.Need-days-before-year-requires
 days-before-year-requires c κs = omega (arith, years c, years-most (c .before .args .year) (good (c .before)))
 
-is-leap-requires : tie.Need-is-leap-requires
-is-leap-requires c κs = search needs
-
 sub-days-before-month : tie.Need-sub-days-before-month
 sub-days-before-month c = let s = c .before .before .before in its-month-low (s .args .year) (s .args .month) (s .args .day) (s .pre)
 
@@ -69,9 +66,6 @@ add-result c = omega (arith, small c)
 cast-result : tie.Need-cast-result
 cast-result c = record { sfits = omega (arith, small c) }
 
-cast-result-2 : tie.Need-cast-result-2
-cast-result-2 c = search needs
-
 difference : (c : tie.After-days-before-month) → let s = c .before .before .before .before .args in
     Lowers w32 (c .before .before .days-before-year .result + c .days-before-month .result + (s .day - 1)) epochDay
 difference c = lowers w32 _ epochDay (omega (arith, small c)) (omega arith)
@@ -90,13 +84,13 @@ day-of-spec =
     (tie.spec
     years-to-requires
     days-before-year-requires
-    is-leap-requires
+    (λ c κs. search needs)
     sub-days-before-month
     days-before-month-requires
     add-start
     sub-result
     add-result
     cast-result
-    cast-result-2
+    (λ c. search needs)
     sub-result-2
     returns)

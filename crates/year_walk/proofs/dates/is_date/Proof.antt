@@ -48,12 +48,6 @@ returns-4 c =
 years-to-requires : tie.Need-years-to-requires
 years-to-requires c κs = let e = c .before .before in rw (toZ-ofZ (e .before .before .fits .year)) (good e)
 
-is-leap-requires : tie.Need-is-leap-requires
-is-leap-requires c κs = search needs
-
-length-of-month-requires : tie.Need-length-of-month-requires
-length-of-month-requires c κs = search needs
-
 -- a month that has the day is one of the twelve, so whether it has the day is all that is left to test
 last : (y : ℤ) (m d : ℕ) → 1 ≤ m → 1 ≤ d → leb d (monthLength y m) ≡ goodMonthDay y m d
 last y m d l p = go (decLt (monthLength y m) d) (decLt 12 m)
@@ -80,6 +74,6 @@ is-date-spec =
     returns-3
     returns-4
     years-to-requires
-    is-leap-requires
-    length-of-month-requires
+    (λ c κs. search needs)
+    (λ c κs. search needs)
     returns-5)
