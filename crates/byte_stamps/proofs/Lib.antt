@@ -1,3 +1,4 @@
 pub mod StampLength
 pub mod OracleYear
 pub mod UdfZone
+pub mod Promises

@@ -6,6 +6,7 @@ use lib.ListN.{take, drop}
 use Rattle.refusal.specs.Answers.{Answer, gives, refused}
 use Rattle.refusal.specs.Ranges.{RefusedWithin}
 use Rattle.refusal.proofs.Ranges.{wider}
+use Rattle.instant.proofs.Ranges.{refused-within}
 use Rattle.rows.specs.Cells.{instantOf, instantBytes, bitsOf, wordBytes}
 use Rattle.rows.specs.Counted.{rowsIn}
 use Rattle.rows.proofs.Promises.{row-refusals}
@@ -13,7 +14,7 @@ use Rattle.registry.specs.Words.{ruleFor, decodeBy, encodeBy}
 use Rattle.registry.specs.Promises.{PickedBy}
 use Rattle.registry.specs.declared.rules.Rule.{Rule}
 use Rattle.registry.proofs.RuleNumbers.{every-number}
-use Rattle.registry.proofs.Refusals.{decoder-refusals, encoder-refusals}
+use Rattle.registry.proofs.Refusals.{decoder-answers, encoder-refusals}
 use Rattle.columns.specs.Columns.{asBytes, decodeRow, encodeRow, Column, rowThen, rowsOf}
 
 -- an answer whose refusal is such a number
@@ -41,7 +42,8 @@ as-bytes bytes (refused n) h = h
 pub decode-row : (r : Rule) (bytes : List ℕ) → Numbered (decodeRow r bytes)
 unfolding decodeRow
 decode-row r bytes =
-    let x = decodeBy r (bitsOf bytes) in as-bytes instantBytes x (wider 2 5 1 13 x (omega arith) (omega arith) (decoder-refusals r (bitsOf bytes)))
+    let x = decodeBy r (bitsOf bytes) in
+    as-bytes instantBytes x (wider 2 5 1 13 x (omega arith) (omega arith) (refused-within 2 5 x (decoder-answers r (bitsOf bytes))))
 
 pub encode-row : (r : Rule) (bytes : List ℕ) → Numbered (encodeRow r bytes)
 unfolding encodeRow

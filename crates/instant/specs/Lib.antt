@@ -1,3 +1,4 @@
 pub mod Instants
 pub mod Answers
+pub mod Ranges
 pub mod Promises

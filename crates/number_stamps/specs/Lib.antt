@@ -1,1 +1,2 @@
 pub mod NumberStamps
+pub mod Promises

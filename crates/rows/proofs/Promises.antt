@@ -12,6 +12,7 @@ use mir.Val.{ofZ}
 use mir.Facts.{toZ-ofZ, fits-ofZ}
 use Rattle.refusal.specs.Answers.{gives, refused}
 use Rattle.refusal.proofs.Answers.{only, same-refusal, given-under}
+use Rattle.refusal.specs.Ranges.{RefusedWithin}
 use Rattle.refusal.proofs.Ranges.{by-test}
 use Rattle.signed.proofs.Tests.{and-left, and-right}
 use Rattle.octets.specs.Octets.{bytesOf}
@@ -53,8 +54,8 @@ rows-are-whole n m k e =
 pub row-refusals : RowRefusals
 unfolding rowsIn
 row-refusals n m =
-    by-test 11 13 (eqb (n % 8) 0 && (eqb (m % 12) 0 && eqb (m / 12) (n / 8))) _ (refused 11)
-    (by-test 11 13 (leb (n / 8) 1048576) (gives (n / 8)) (refused 13) tt (omega arith, omega arith))
+    by-test (RefusedWithin 11 13) (eqb (n % 8) 0 && (eqb (m % 12) 0 && eqb (m / 12) (n / 8))) _ (refused 11)
+    (by-test (RefusedWithin 11 13) (leb (n / 8) 1048576) (gives (n / 8)) (refused 13) tt (omega arith, omega arith))
     (omega arith, omega arith)
 
 told : (a b : Rows) → readRows a ≡ readRows b → a ≡ b
