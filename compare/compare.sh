@@ -5,8 +5,8 @@
 #   compare/compare.sh --all-words LAYOUT     every word of a layout of 32 bits: 1, 2, 3, 4, 9 or 15
 #   compare/compare.sh FILE                   the lines of a file, as the line program takes them
 # With --jiff sid before these, the Rust stands on jiff 0.2.37 instead of 0.1.28. build.sh says what is needed, and which
-# variables name it; SLEETRICK_LIB names another folder with a libcolumns.a than target/staticlib.
-# The status is 0 where all agree, 1 where something differs, and 2 where not all could be compared: then it says why.
+# variables name it; SLEETRICK_LIB names another folder with a libsleetrick.a than target/staticlib.
+# The status is 0 where all agree, 1 where something differs, and 2 where nothing could be compared: then it says why.
 set -eu
 suite=trixie
 if [ "${1:-}" = --jiff ]; then
@@ -42,17 +42,8 @@ if ! compare/build.sh compare "$suite"; then
     echo "compare.sh: nothing was compared" >&2
     exit 2
 fi
-# The program that answers for the composites; without it they are not compared, and the report says so.
-case ${1:-} in
---inputs | --seed | '')
-    if [ ! -x target/bin/replay ] && command -v rt >/dev/null 2>&1; then
-        echo "compare.sh: proving and building the program replay, a few minutes" >&2
-        rt check replay >target/compare.log 2>&1 || cat target/compare.log >&2
-    fi
-    ;;
-esac
 timeglyph=$(cd "${TIMEGLYPH:-../shared/docs/src}" && pwd)
-library=${SLEETRICK_LIB:-$PWD/target/staticlib}/libcolumns.a
+library=${SLEETRICK_LIB:-$PWD/target/staticlib}/libsleetrick.a
 echo "the Rust      timeglyph in $timeglyph$(commit "$timeglyph")"
-echo "this library  $library, sha256 $(sha256sum "$library" | cut -c 1-16)"
+echo "this library  $library, sha256 $(sha256sum "$library" | cut -c 1-16), for $(sed -n 's/^target //p' "${library%.a}.from")"
 exec "target/compare-$suite/release/compare" "$@"

@@ -1,12 +1,19 @@
-/* The two calls of libcolumns.a with a fault in them, for trying the comparison: the variable FAULT names which. Rows are asked
-   of the proved calls, which faults.sh has renamed, one at a time, and then damaged. */
+/* Calls of libsleetrick.a with a fault in them, for trying the comparison: the variable FAULT names which. Rows are asked of the
+   proved calls, which faults.sh has renamed, one at a time, and then damaged. */
 
 #include <stdint.h>
 #include <stdlib.h>
 #include <string.h>
 
 typedef uint64_t column(uint32_t layout, const uint8_t *read, size_t read_length, uint8_t *written, size_t written_length);
+typedef uint64_t stamp(const uint8_t *bytes, size_t bytes_length, uint8_t *instant, size_t length);
 column proved_decode_column, proved_encode_column;
+stamp proved_oracle_date, proved_cp56time2a, proved_udf;
+uint64_t proved_decode(uint32_t layout, int64_t word, uint8_t *instant, size_t length);
+uint64_t proved_encode(uint32_t layout, int64_t seconds, uint32_t nanos, uint8_t *word, size_t length);
+uint64_t proved_filetime_hilo(uint32_t low, uint32_t high, uint8_t *instant, size_t length);
+uint64_t proved_vmsd(int32_t high, int32_t low, uint8_t *instant, size_t length);
+uint64_t proved_unix_sec_nsec(int64_t seconds, uint32_t nanos, uint8_t *instant, size_t length);
 
 enum { WORD = 8, INSTANT = 12, MOST_ROWS = 1048576 };
 
@@ -93,12 +100,77 @@ static uint64_t rows(column *proved, unsigned damage(uint32_t, const uint8_t *, 
     return 16 * (rows + fault("a row too many is counted"));
 }
 
-uint64_t sleetrick_decode_column(uint32_t layout, const uint8_t *words, size_t words_length, uint8_t *instants,
-                                 size_t instants_length) {
+/* A call of which a fault is planted below; faults.sh renames the proved one. */
+#define PLANTED(call) sleetrick_##call
+
+uint64_t PLANTED(decode_column)(uint32_t layout, const uint8_t *words, size_t words_length, uint8_t *instants,
+                                size_t instants_length) {
     return rows(proved_decode_column, decoded, layout, words, words_length, WORD, instants, instants_length, INSTANT);
 }
 
-uint64_t sleetrick_encode_column(uint32_t layout, const uint8_t *instants, size_t instants_length, uint8_t *words,
-                                 size_t words_length) {
+uint64_t PLANTED(encode_column)(uint32_t layout, const uint8_t *instants, size_t instants_length, uint8_t *words,
+                                size_t words_length) {
     return rows(proved_encode_column, encoded, layout, instants, instants_length, INSTANT, words, words_length, WORD);
+}
+
+uint64_t PLANTED(decode)(uint32_t layout, int64_t word, uint8_t *instant, size_t length) {
+    uint64_t refusal = proved_decode(layout, word, instant, length);
+    if (fault("a refused word alone is instant zero") && refusal) {
+        put_instant(instant, 0, 0);
+        return 0;
+    }
+    return refusal;
+}
+
+uint64_t PLANTED(encode)(uint32_t layout, int64_t seconds, uint32_t nanos, uint8_t *word, size_t length) {
+    if (fault("an instant alone loses its nanoseconds"))
+        nanos = 0;
+    return proved_encode(layout, seconds, nanos, word, length);
+}
+
+uint64_t PLANTED(filetime_hilo)(uint32_t low, uint32_t high, uint8_t *instant, size_t length) {
+    if (fault("the halves of a FILETIME are exchanged"))
+        return proved_filetime_hilo(high, low, instant, length);
+    return proved_filetime_hilo(low, high, instant, length);
+}
+
+uint64_t PLANTED(vmsd)(int32_t high, int32_t low, uint8_t *instant, size_t length) {
+    int less = fault("the low half of a VMSD is signed") && low < 0;
+    return proved_vmsd((int32_t)((uint32_t)high - less), low, instant, length);
+}
+
+uint64_t PLANTED(unix_sec_nsec)(int64_t seconds, uint32_t nanos, uint8_t *instant, size_t length) {
+    if (fault("nanoseconds do not carry"))
+        nanos %= NANOS;
+    return proved_unix_sec_nsec(seconds, nanos, instant, length);
+}
+
+/* A stamp in bytes: its refusal, and the instant, damaged. */
+static uint64_t stamped(stamp *proved, const uint8_t *bytes, size_t bytes_length, uint8_t *instant, size_t length) {
+    uint64_t refusal = proved(bytes, bytes_length, instant, length);
+    if (fault("a refused stamp is instant zero") && refusal) {
+        put_instant(instant, 0, 0);
+        return 0;
+    }
+    if (fault("a stamp's last millisecond is one less") && !refusal && nanos(instant) == 999000000)
+        put_instant(instant, number(instant), 998000000);
+    return refusal;
+}
+
+uint64_t PLANTED(oracle_date)(const uint8_t *bytes, size_t bytes_length, uint8_t *instant, size_t length) {
+    return stamped(proved_oracle_date, bytes, bytes_length, instant, length);
+}
+
+uint64_t PLANTED(cp56time2a)(const uint8_t *bytes, size_t bytes_length, uint8_t *instant, size_t length) {
+    return stamped(proved_cp56time2a, bytes, bytes_length, instant, length);
+}
+
+uint64_t PLANTED(udf)(const uint8_t *bytes, size_t bytes_length, uint8_t *instant, size_t length) {
+    uint8_t zoned[12];
+    if (fault("zone 0x800 of a UDF stamp is none") && bytes_length == 12 && bytes[0] == 0 && bytes[1] % 16 == 8) {
+        memcpy(zoned, bytes, 12);
+        zoned[0] = 1;
+        bytes = zoned;
+    }
+    return stamped(proved_udf, bytes, bytes_length, instant, length);
 }

@@ -1,74 +1,154 @@
-//! Why there is no value: one number, and nothing else.
+//! Why there is no value.
 
-use std::error::Error;
-use std::fmt;
+use core::error::Error;
+use core::fmt;
 
-/// The number of a refusal, 1 to 13. No other can be made.
+/// Why a call gives no value: its [`reason`](Refusal::reason), and no instant.
+///
+/// A program compares reasons, not refusals: a refusal may say more one day.
+///
+/// ```
+/// use sleetrick::{decode, Layout, Reason};
+///
+/// let refusal = decode(Layout::FatDos, 2_162_718).unwrap_err();
+/// assert_eq!(refusal.reason(), Reason::Fields);
+/// assert_eq!(refusal.number(), 3);
+/// ```
 #[derive(Clone, Copy, Debug, PartialEq, Eq, Hash)]
-pub struct Refusal(u32);
+pub struct Refusal {
+    reason: Reason,
+}
 
-/// Document 01's words for each number, from 1 on.
-const WORDS: [&str; 13] = [
-    "layout number not 1..16",
-    "word outside the range column, or FILETIME top bit",
-    "civil fields not good",
-    "Gsm zone units above 9",
-    "SqlServer ticks 25,920,000 or more",
-    "encoders 1-14: seconds outside the civil window",
-    "encoders 1-14: year outside its column",
-    "encoder 15: p outside u32; encoder 16: day (after the roll) outside i32",
-    "instant's nanoseconds above 999,999,999",
-    "byte stamp of a wrong length",
-    "column length not a multiple of its row, or output not exactly as many rows",
-    "unix_sec_nsec: seconds don't fit 64 bits",
-    "column over 1,048,576 rows",
-];
-
-impl Refusal {
+/// The reasons for a refusal. Each has a number, which is the one in docs/LAYOUTS.md, in logs and in the line program.
+#[derive(Clone, Copy, Debug, PartialEq, Eq, Hash)]
+#[non_exhaustive]
+#[repr(u32)]
+pub enum Reason {
     /// The layout number is not 1 to 16.
-    pub const LAYOUT: Refusal = Refusal(1);
+    Layout = 1,
     /// A word outside its layout's range, or a FILETIME with its top bit set.
-    pub const RANGE: Refusal = Refusal(2);
-    /// Civil fields that are not good.
-    pub const FIELDS: Refusal = Refusal(3);
-    /// The units of a Gsm zone are above 9.
-    pub const ZONE: Refusal = Refusal(4);
-    /// SqlServer ticks of a day or more.
-    pub const TICKS: Refusal = Refusal(5);
-    /// Seconds outside the civil window.
-    pub const WINDOW: Refusal = Refusal(6);
+    Range = 2,
+    /// Fields that are no date and time, or lie outside the calendar.
+    Fields = 3,
+    /// The units of a [`Gsm`](crate::Layout::Gsm) zone are above 9.
+    Zone = 4,
+    /// The ticks of a [`SqlServer`](crate::Layout::SqlServer) word are a day or more.
+    Ticks = 5,
+    /// Seconds outside the calendar.
+    Window = 6,
     /// A year that the layout has no room for.
-    pub const YEAR: Refusal = Refusal(7);
-    /// A count that the word has no room for: seconds in layout 15, days in layout 16.
-    pub const COUNT: Refusal = Refusal(8);
-    /// An instant's nanoseconds are above 999,999,999.
-    pub const NANOS: Refusal = Refusal(9);
-    /// A byte stamp of a wrong length. No function here takes byte stamps.
-    pub const LENGTH: Refusal = Refusal(10);
-    /// A column that is not whole rows, or an output that has not exactly as many.
-    pub const ROWS: Refusal = Refusal(11);
-    /// Seconds that do not fit 64 bits. No function here adds to seconds.
-    pub const CARRY: Refusal = Refusal(12);
-    /// A column of more than 1,048,576 rows.
-    pub const COLUMN: Refusal = Refusal(13);
+    Year = 7,
+    /// A count that the word has no room for.
+    Count = 8,
+    /// Nanoseconds above 999,999,999.
+    Nanos = 9,
+    /// A byte stamp of a wrong length.
+    Length = 10,
+    /// Columns that are not whole rows, or have not as many of them.
+    Rows = 11,
+    /// Seconds that do not fit 64 bits.
+    Carry = 12,
+    /// A column of more than [`MOST_ROWS`](crate::MOST_ROWS) rows.
+    Column = 13,
+}
+
+impl Reason {
+    /// In the order of their numbers.
+    const ALL: [Reason; 13] = [
+        Reason::Layout,
+        Reason::Range,
+        Reason::Fields,
+        Reason::Zone,
+        Reason::Ticks,
+        Reason::Window,
+        Reason::Year,
+        Reason::Count,
+        Reason::Nanos,
+        Reason::Length,
+        Reason::Rows,
+        Reason::Carry,
+        Reason::Column,
+    ];
 
     /// The number, 1 to 13.
+    #[must_use]
     pub const fn number(self) -> u32 {
-        self.0
+        self as u32
     }
 
-    /// The refusal of that number, if it is one.
-    pub const fn of(number: u32) -> Option<Refusal> {
-        match number {
-            1..=13 => Some(Refusal(number)),
-            _ => None,
+    /// What is wrong, and what it may come from.
+    const fn text(self) -> &'static str {
+        match self {
+            Reason::Layout => "there is no layout of this number; layouts have the numbers 1 to 16",
+            Reason::Range => {
+                "the word is outside its layout's range, or the FILETIME has its top bit set; it may be of another layout, or \
+                 read with the wrong width or sign"
+            }
+            Reason::Fields => {
+                "the fields are no date and time, or lie outside the calendar; the stamp may be of another kind, have its bytes \
+                 in another order, or never have been set"
+            }
+            Reason::Zone => {
+                "the quarter hours of the zone have a digit above 9; the date before them is good, the zone byte is damaged"
+            }
+            Reason::Ticks => {
+                "the ticks of the day are a day or more; the two halves may be exchanged, or the word be of another layout"
+            }
+            Reason::Window => {
+                "the instant is outside the calendar, which has the days from -9999-01-02 to 9999-12-30; its seconds may be a \
+                 count in another unit"
+            }
+            Reason::Year => "the layout has no room for the instant's year; take one whose years reach that far",
+            Reason::Count => {
+                "the layout counts from an epoch and has no room for the count to the instant; take one of civil fields"
+            }
+            Reason::Nanos => "the nanoseconds are above 999,999,999; carry whole seconds into the seconds",
+            Reason::Length => {
+                "the stamp has not as many bytes as its kind, which are 7 for Oracle and CP56Time2a and 12 for UDF; lend the \
+                 stamp alone, whole"
+            }
+            Reason::Rows => {
+                "there is not room for exactly as many results as there are rows, or a column in bytes is not whole rows, of 8 \
+                 bytes for a word and 12 for an instant"
+            }
+            Reason::Carry => {
+                "the seconds do not fit 64 bits once the nanoseconds are carried; the stamp is damaged"
+            }
+            Reason::Column => "the column has more than 1,048,576 rows; hand it over in parts",
         }
+    }
+}
+
+impl Refusal {
+    pub(crate) const fn new(reason: Reason) -> Refusal {
+        Refusal { reason }
+    }
+
+    /// The refusal of a number that the library told.
+    pub(crate) fn told(number: u64) -> Refusal {
+        let reason = Reason::ALL
+            .into_iter()
+            .find(|reason| u64::from(reason.number()) == number)
+            .expect("the library refuses under the numbers of the reasons");
+        Refusal::new(reason)
+    }
+
+    /// Why.
+    #[must_use]
+    pub const fn reason(self) -> Reason {
+        self.reason
+    }
+
+    /// The number of the reason, 1 to 13.
+    #[must_use]
+    pub const fn number(self) -> u32 {
+        self.reason.number()
     }
 }
 
 impl fmt::Display for Refusal {
     fn fmt(&self, out: &mut fmt::Formatter) -> fmt::Result {
-        write!(out, "refused {}: {}", self.0, WORDS[self.0 as usize - 1])
+        write!(out, "refused {}: {}", self.number(), self.reason.text())
     }
 }
 

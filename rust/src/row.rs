@@ -33,15 +33,15 @@ impl Row for Instant {
 
     fn put(self, row: &mut [u8]) {
         let (seconds, nanos) = row.split_at_mut(8);
-        seconds.copy_from_slice(&self.seconds.to_le_bytes());
-        nanos.copy_from_slice(&self.nanos.to_le_bytes());
+        seconds.copy_from_slice(&self.seconds().to_le_bytes());
+        nanos.copy_from_slice(&self.nanos().to_le_bytes());
     }
 
     fn get(row: &[u8]) -> Instant {
         let (seconds, nanos) = row.split_at(8);
-        Instant {
-            seconds: i64::from_le_bytes(seconds.try_into().expect("seconds have 8 bytes")),
-            nanos: u32::from_le_bytes(nanos.try_into().expect("nanoseconds have 4 bytes")),
-        }
+        Instant::decoded(
+            i64::from_le_bytes(seconds.try_into().expect("seconds have 8 bytes")),
+            u32::from_le_bytes(nanos.try_into().expect("nanoseconds have 4 bytes")),
+        )
     }
 }

@@ -1,29 +1,29 @@
 //! Room for results that a caller lends, and can't read before something is there.
 
-#![allow(unsafe_code)]
+#![allow(unsafe_code, reason = "filled slots are read as their values")]
 
-use std::mem::MaybeUninit;
+use core::mem::MaybeUninit;
 
 /// Room for one result. Nothing can be read from it: what is written there comes back in [`Done`](crate::Done).
 ///
 /// Slots can be used again, for the next morning, say. What an earlier column left in them is not to be had either.
 ///
 /// ```
-/// # use sleetrick::{decode_words, Slot};
+/// # use sleetrick::{decode_words, Layout, Slot};
 /// let words = vec![2_162_688; 1000];
 /// let mut room = vec![Slot::EMPTY; words.len()];
-/// let instants = decode_words(1, &words, &mut room).all()?;
-/// assert_eq!(instants[999].seconds, 315_532_800);
+/// let instants = decode_words(Layout::FatDos, &words, &mut room).all()?;
+/// assert_eq!(instants[999].seconds(), 315_532_800);
 /// # Ok::<(), sleetrick::Stopped>(())
 /// ```
 ///
 /// So a refused row can't be taken for an instant: this does not compile.
 ///
-/// ```compile_fail,E0609
-/// # use sleetrick::{decode_words, Slot};
+/// ```compile_fail,E0599
+/// # use sleetrick::{decode_words, Layout, Slot};
 /// let mut room = [Slot::EMPTY; 1];
-/// let _ = decode_words(1, &[2_162_718], &mut room);
-/// let seed = room[0].seconds;
+/// let _ = decode_words(Layout::FatDos, &[2_162_718], &mut room);
+/// let seed = room[0].seconds();
 /// ```
 ///
 /// Nor do the other ways to a value: a field, a comparison, printing, a conversion, a reference.
@@ -73,6 +73,6 @@ impl<'a, T: Copy> Filling<'a, T> {
     pub fn results(self) -> &'a [T] {
         let filled: &'a [Slot<T>] = &self.slots[..self.filled];
         // SAFETY: a slot is laid out as its value, and these have one: `push` put it there.
-        unsafe { std::slice::from_raw_parts(filled.as_ptr().cast(), filled.len()) }
+        unsafe { core::slice::from_raw_parts(filled.as_ptr().cast(), filled.len()) }
     }
 }

@@ -4,29 +4,29 @@
 use crate::bytes::Column;
 use crate::row::{Row, MOST_BYTES};
 use crate::slot::Filling;
-use crate::{decode_column, encode_column, Done, Instant, Refusal, Slot, MOST_ROWS};
+use crate::{
+    decode_column, encode_column, Done, Instant, Layout, Reason, Refusal, Slot, MOST_ROWS,
+};
 
 /// The rows of a block.
 const BLOCK: usize = 256;
 
 /// Decodes words to instants, a slot for each.
 ///
-/// Refused as a whole, with no row done: 11 where there are not as many slots as words, then 13, then 1. A word is refused
-/// under 2, 3, 4 or 5.
+/// Refused as a whole, with no row done: for [`Reason::Rows`] where there are not as many slots as words, then for
+/// [`Reason::Column`]. A word is refused as [`decode`](crate::decode) says.
 ///
 /// ```
-/// use sleetrick::{decode_words, Instant, Slot};
+/// use sleetrick::{decode_words, Instant, Layout, Reason, Slot};
 ///
 /// let mut room = [Slot::EMPTY; 3];
-/// let done = decode_words(1, &[2_162_688, 2_162_718, 2_162_717], &mut room);
-/// assert_eq!(done.results(), [Instant { seconds: 315_532_800, nanos: 0 }]);
-/// assert_eq!(
-///     done.all().unwrap_err().to_string(),
-///     "rows done: 1, then refused 3: civil fields not good"
-/// );
+/// let done = decode_words(Layout::FatDos, &[2_162_688, 2_162_718, 2_162_717], &mut room);
+/// assert_eq!(done.results(), [Instant::at_second(315_532_800)]);
+/// let stopped = done.all().unwrap_err();
+/// assert_eq!((stopped.rows(), stopped.refusal().reason()), (1, Reason::Fields));
 /// ```
 pub fn decode_words<'a>(
-    layout: u32,
+    layout: Layout,
     words: &[i64],
     instants: &'a mut [Slot<Instant>],
 ) -> Done<'a, Instant> {
@@ -35,19 +35,19 @@ pub fn decode_words<'a>(
 
 /// Encodes instants to words, a slot for each.
 ///
-/// Refused as a whole, with no row done: 11 where there are not as many slots as instants, then 13, then 1. An instant is
-/// refused under 9, 6, 7 or 8.
+/// Refused as a whole, with no row done: for [`Reason::Rows`] where there are not as many slots as instants, then for
+/// [`Reason::Column`]. An instant is refused as [`encode`](crate::encode) says.
 ///
 /// ```
-/// use sleetrick::{encode_instants, Instant, Slot};
+/// use sleetrick::{encode_instants, Instant, Layout, Slot};
 ///
 /// let mut room = [Slot::EMPTY; 1];
-/// let words = encode_instants(1, &[Instant { seconds: 315_532_859, nanos: 7 }], &mut room).all()?;
+/// let words = encode_instants(Layout::FatDos, &[Instant::at_second(315_532_859)], &mut room).all()?;
 /// assert_eq!(words, [2_162_717]);
 /// # Ok::<(), sleetrick::Stopped>(())
 /// ```
 pub fn encode_instants<'a>(
-    layout: u32,
+    layout: Layout,
     instants: &[Instant],
     words: &'a mut [Slot<i64>],
 ) -> Done<'a, i64> {
@@ -56,11 +56,11 @@ pub fn encode_instants<'a>(
 
 fn by_blocks<'a, In: Row, Out: Row>(
     column: Column,
-    layout: u32,
+    layout: Layout,
     input: &[In],
     output: &'a mut [Slot<Out>],
 ) -> Done<'a, Out> {
-    let refused = refused_whole(column, layout, input.len(), output.len());
+    let refused = refused_whole(input.len(), output.len());
     let mut filling = Filling::new(output);
     let refusal = refused.or_else(|| fill(column, layout, input, &mut filling));
     let results = filling.results();
@@ -68,21 +68,17 @@ fn by_blocks<'a, In: Row, Out: Row>(
 }
 
 /// What refuses the column before its first row, in the order of a column in bytes.
-fn refused_whole(column: Column, layout: u32, rows: usize, slots: usize) -> Option<Refusal> {
+fn refused_whole(rows: usize, slots: usize) -> Option<Refusal> {
     if rows != slots {
-        return Some(Refusal::ROWS);
+        return Some(Refusal::new(Reason::Rows));
     }
-    if rows > MOST_ROWS {
-        return Some(Refusal::COLUMN);
-    }
-    // Of a column without rows, only its layout can be refused.
-    column(layout, &[], &mut []).refusal()
+    (rows > MOST_ROWS).then(|| Refusal::new(Reason::Column))
 }
 
 /// Does the rows, until one is refused.
 fn fill<In: Row, Out: Row>(
     column: Column,
-    layout: u32,
+    layout: Layout,
     input: &[In],
     filling: &mut Filling<Out>,
 ) -> Option<Refusal> {

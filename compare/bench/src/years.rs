@@ -4,9 +4,9 @@
 use crate::best::Best;
 use crate::rows::{self, room_for_instants, room_for_words};
 use crate::{agreed, ROUNDS};
-use sleetrick::{decode_column, encode_column};
+use sleetrick::{decode_column, encode_column, Layout};
 
-const LAYOUT: u32 = 10;
+const LAYOUT: Layout = Layout::Ns40;
 
 /// Years with their first and last seconds; the year 9999 as far as the window goes.
 const YEARS: [(u32, i64, i64); 3] = [
@@ -44,7 +44,10 @@ pub fn table() {
             encodes.time(|| encode_column(LAYOUT, &year.instants, &mut words).rows());
         }
     }
-    println!("| year, in layout {LAYOUT} | decoding | encoding |");
+    println!(
+        "| year, in layout {} | decoding | encoding |",
+        LAYOUT.number()
+    );
     println!("|---|---|---|");
     for year in &years {
         let (decodes, encodes) = (year.decodes.a_row(), year.encodes.a_row());

@@ -3,20 +3,41 @@
 use crate::direction::Direction;
 use crate::known::{no_window, NO_WINDOW};
 use crate::outcome::Outcome;
-use crate::sides::{self, Verdict, FILL};
+use crate::sides::{self, Side, Verdict, FILL};
 
 /// The rows that are asked at a time: as many as a processor's caches hold.
 pub const ROWS: usize = 4096;
 
-/// Hands on what comes of each row, in their order.
+/// By columns. Hands on what comes of each row, in their order.
 pub fn compare(
     direction: Direction,
     layout: u32,
     read: &[u8],
+    hand_on: impl FnMut(&[u8], Outcome),
+) {
+    let ours = sides::ours(direction, layout, read);
+    beside_rust(direction, layout, read, &ours, hand_on);
+}
+
+/// The same, by single calls.
+pub fn compare_singly(
+    direction: Direction,
+    layout: u32,
+    read: &[u8],
+    hand_on: impl FnMut(&[u8], Outcome),
+) {
+    let ours = sides::single(direction, layout, read);
+    beside_rust(direction, layout, read, &ours, hand_on);
+}
+
+fn beside_rust(
+    direction: Direction,
+    layout: u32,
+    read: &[u8],
+    ours: &Side,
     mut hand_on: impl FnMut(&[u8], Outcome),
 ) {
     let rust = sides::rust(direction, layout, read);
-    let ours = sides::ours(direction, layout, read);
     let verdicts = rust.verdicts.iter().zip(&ours.verdicts);
     let written = rust
         .written

@@ -1,99 +1,98 @@
-//! The six composites: the Rust asked in this process, and this project's program `replay` by lines of text.
+//! The six composites: the Rust, and this library through its package.
 
 use crate::guarded::guarded;
 use crate::known::NO_CARRY;
 use crate::outcome::Outcome;
 use crate::part::Part;
-use questions::composites::Question;
-use questions::rust_side::{composes, instant, seconds_and_nanos};
-use std::fmt::Write as _;
-use std::io::Write as _;
-use std::process::{Command, Stdio};
-use std::thread;
+use questions::composites::{typed, Question, Written};
+use questions::counts::seconds_and_nanos;
+use questions::rust_side::composes;
+use sleetrick::{cp56time2a, filetime_hilo, oracle_date, udf, unix_sec_nsec, vmsd};
+use sleetrick::{Instant, Refusal};
+use std::fmt;
 
-/// Runs a program of this project, from the repository's root.
-const RUN: [&str; 2] = ["tools/run-program", "replay"];
-
-/// The questions that a run of the program is asked.
-pub const AT_ONCE: usize = 1 << 17;
-
-/// Compares the questions that the Rust can be asked; an error says why the program gave no answers.
-pub fn compare(questions: &[Question], part: &mut Part) -> Result<(), String> {
-    for questions in questions.chunks(AT_ONCE) {
-        let mut lines = String::new();
-        for question in questions {
-            writeln!(lines, "{question}").expect("a text has room");
-        }
-        let answers = answers(lines)?;
-        let mut answers = answers.lines();
-        for question in questions {
-            let ours = answers.next().unwrap_or("no line");
-            let Some(rust) = rust(question) else {
-                continue;
-            };
+/// Compares the questions that both sides can be asked.
+pub fn compare(questions: &[Question], part: &mut Part) {
+    for question in questions {
+        if let (Some(rust), Some(ours)) = (rust(question), ours(question)) {
             part.count(outcome(rust, ours), || question.to_string());
         }
     }
-    Ok(())
 }
 
-/// The Rust's answer.
-enum Rust {
-    Instant(String),
-    /// An instant whose seconds no i64 holds.
-    TooFar(String),
-    Refused,
+#[derive(Clone, Copy, PartialEq, Eq)]
+enum Answer {
+    /// Seconds, which may be more than 64 bits hold, and nanoseconds.
+    Instant(i128, u32),
+    /// By the number, which the Rust's refusals do not have.
+    Refused(Option<u32>),
     Panics,
 }
 
+impl fmt::Display for Answer {
+    fn fmt(&self, out: &mut fmt::Formatter) -> fmt::Result {
+        match self {
+            Answer::Instant(seconds, nanos) => write!(out, "{seconds} {nanos}"),
+            Answer::Refused(None) => write!(out, "refused"),
+            Answer::Refused(Some(number)) => write!(out, "refused {number}"),
+            Answer::Panics => write!(out, "panics"),
+        }
+    }
+}
+
 /// Nothing where the Rust's types can't be given the question.
-fn rust(question: &Question) -> Option<Rust> {
+fn rust(question: &Question) -> Option<Answer> {
     let Some(answer) = guarded(|| composes(question)) else {
-        return Some(Rust::Panics);
+        return Some(Answer::Panics);
     };
     Some(match answer? {
-        Ok(count) if i64::try_from(seconds_and_nanos(&count).0).is_ok() => {
-            Rust::Instant(instant(&count))
+        Ok(count) => {
+            let (seconds, nanos) = seconds_and_nanos(&count);
+            Answer::Instant(seconds, nanos)
         }
-        Ok(count) => Rust::TooFar(instant(&count)),
-        Err(_) => Rust::Refused,
+        Err(_) => Answer::Refused(None),
     })
 }
 
-fn outcome(rust: Rust, ours: &str) -> Outcome {
-    let (known, rust) = match rust {
-        Rust::Instant(text) if text == ours => return Outcome::Answered,
-        Rust::Refused if ours.starts_with("refused ") => return Outcome::Refused,
-        Rust::TooFar(text) if ours == "refused 12" => (Some(NO_CARRY), text),
-        Rust::Instant(text) | Rust::TooFar(text) => (None, text),
-        Rust::Refused => (None, "refused".to_string()),
-        Rust::Panics => (None, "panics".to_string()),
+/// Nothing where the package's types can't be given the question.
+fn ours(question: &Question) -> Option<Answer> {
+    let Some(answer) = guarded(|| ask(question)) else {
+        return Some(Answer::Panics);
+    };
+    Some(match answer? {
+        Ok(instant) => Answer::Instant(instant.seconds().into(), instant.nanos()),
+        Err(refusal) => Answer::Refused(Some(refusal.number())),
+    })
+}
+
+fn ask(question: &Question) -> Option<Result<Instant, Refusal>> {
+    Some(match question {
+        Question::Filetime { low, high } => filetime_hilo(typed(*low)?, typed(*high)?),
+        Question::Vmsd { high, low } => vmsd(typed(*high)?, typed(*low)?),
+        Question::UnixSecNsec { seconds, nanos } => unix_sec_nsec(*seconds, typed(*nanos)?),
+        Question::Stamp { written, bytes } => match written {
+            Written::Oracle => oracle_date(bytes),
+            Written::Cp56 => cp56time2a(bytes),
+            Written::Udf => udf(bytes),
+        },
+        Question::None(_) => return None,
+    })
+}
+
+fn outcome(rust: Answer, ours: Answer) -> Outcome {
+    let known = match (rust, ours) {
+        (Answer::Instant(..), Answer::Instant(..)) if rust == ours => return Outcome::Answered,
+        (Answer::Refused(_), Answer::Refused(_)) => return Outcome::Refused,
+        (Answer::Instant(seconds, _), Answer::Refused(Some(12)))
+            if i64::try_from(seconds).is_err() =>
+        {
+            Some(NO_CARRY)
+        }
+        _ => None,
     };
     Outcome::Differs {
         known,
-        rust,
+        rust: rust.to_string(),
         ours: ours.to_string(),
     }
-}
-
-/// What the program writes for these lines.
-fn answers(lines: String) -> Result<String, String> {
-    let failed = |error: &dyn std::fmt::Display| format!("{} {}: {error}", RUN[0], RUN[1]);
-    let mut program = Command::new(RUN[0])
-        .args(&RUN[1..])
-        .stdin(Stdio::piped())
-        .stdout(Stdio::piped())
-        .spawn()
-        .map_err(|error| failed(&error))?;
-    let mut input = program.stdin.take().expect("it is piped");
-    let output = thread::scope(|scope| {
-        // A program that ends early is told by its status.
-        scope.spawn(move || input.write_all(lines.as_bytes()).ok());
-        program.wait_with_output()
-    });
-    let output = output.map_err(|error| failed(&error))?;
-    if !output.status.success() {
-        return Err(failed(&output.status));
-    }
-    String::from_utf8(output.stdout).map_err(|error| failed(&error))
 }

@@ -2,7 +2,7 @@
 
 use questions::rows::{self, INSTANT, WORD};
 use questions::words::{decode, encode, Question};
-use sleetrick::{decode_column, encode_column, Done};
+use sleetrick::{decode_column, encode_column, Done, Instant, Layout, Refusal};
 use timeglyph::PackedCodec;
 
 #[derive(Clone, Copy)]
@@ -60,11 +60,34 @@ impl Direction {
 
     /// This library's answer to a column.
     pub fn ours<'a>(self, layout: u32, read: &[u8], written: &'a mut [u8]) -> Done<'a, u8> {
+        let layout = layout_of(layout);
         match self {
             Direction::Decode => decode_column(layout, read, written),
             Direction::Encode => encode_column(layout, read, written),
         }
     }
+
+    /// This library's answer to one row, by its single call: the row is written, or nothing is, and there is a refusal.
+    pub fn single(self, layout: u32, read: &[u8], written: &mut [u8]) -> Result<(), Refusal> {
+        let layout = layout_of(layout);
+        match self {
+            Direction::Decode => {
+                let instant = sleetrick::decode(layout, rows::word(read))?;
+                rows::put_instant(written, instant.seconds(), instant.nanos());
+            }
+            Direction::Encode => {
+                let (seconds, nanos) = rows::instant(read);
+                let word = sleetrick::encode(layout, Instant::new(seconds, nanos)?)?;
+                rows::put_word(written, word);
+            }
+        }
+        Ok(())
+    }
+}
+
+/// The layout of a number that both sides can be asked.
+fn layout_of(number: u32) -> Layout {
+    Layout::try_from(number).expect("questions have a layout")
 }
 
 /// The direction, the layout number and the row of a question that both sides can be asked.

@@ -3,6 +3,7 @@
 mod columns;
 mod composites;
 mod dates;
+mod singles;
 
 use crate::arguments::LAYOUTS_OF_32_BITS;
 use crate::block;
@@ -20,7 +21,8 @@ use questions::words::{instant_boundaries, word_boundaries, Question};
 const GOOD_WORDS: u64 = 3;
 const DAMAGED_WORDS: u64 = 3;
 const SLICE: u64 = 2;
-const INSTANTS: u64 = 4;
+const INSTANTS: u64 = 3;
+const SINGLES: u64 = 1;
 const COLUMNS: u64 = 2;
 const COMPOSITES: u64 = 2;
 
@@ -43,12 +45,9 @@ pub fn run(inputs: u64, seed: u64) -> Report {
     report.push(words("damaged words", share(DAMAGED_WORDS), make));
     report.push(slice(share(SLICE), numbers));
     report.push(instants(share(INSTANTS), numbers));
+    report.push(singles::part(share(SINGLES), numbers));
     report.push(columns::part(share(COLUMNS), numbers));
-    let (part, answered) = composites::part(share(COMPOSITES), numbers);
-    report.push(part);
-    if let Err(reason) = answered {
-        report.leave_out(format!("the composites: {reason}"));
-    }
+    report.push(composites::part(share(COMPOSITES), numbers));
     report
 }
 

@@ -1,5 +1,5 @@
-//! compare: this library and the Rust's own codecs on the same inputs, and a report. compare.sh says how it is called and what
-//! its status means. It runs in the repository's root, where it finds the program that answers for the composites.
+//! compare: this library, through its package, and the Rust's own codecs on the same inputs, and a report. compare.sh says how it
+//! is called and what its status means.
 
 mod all_words;
 mod arguments;

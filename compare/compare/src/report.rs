@@ -8,8 +8,6 @@ use std::process::ExitCode;
 #[derive(Default)]
 pub struct Report {
     parts: Vec<Part>,
-    /// What was not compared, and why.
-    left_out: Vec<String>,
 }
 
 impl Report {
@@ -21,11 +19,7 @@ impl Report {
         self.parts.iter().map(Part::inputs).sum()
     }
 
-    pub fn leave_out(&mut self, what: String) {
-        self.left_out.push(what);
-    }
-
-    /// Prints the report. The status is 1 where something differs, and else 2 where something was left out.
+    /// Prints the report. The status is 1 where something differs.
     pub fn print(self) -> ExitCode {
         println!();
         row("", ["inputs", "answered", "refused", "known", "differ"]);
@@ -47,16 +41,9 @@ impl Report {
             println!("different, {}; the smallest:", grouped(all.differ.count));
             all.differ.smallest.iter().for_each(in_full);
         }
-        for what in &self.left_out {
-            println!("NOT COMPARED: {what}");
-        }
-        match self.left_out.len() {
-            0 => println!("{}", sentence(&all)),
-            _ => println!("NOT ALL WAS COMPARED. {}", sentence(&all)),
-        }
-        match (all.differ.count, self.left_out.len()) {
-            (0, 0) => ExitCode::SUCCESS,
-            (0, _) => ExitCode::from(2),
+        println!("{}", sentence(&all));
+        match all.differ.count {
+            0 => ExitCode::SUCCESS,
             _ => ExitCode::from(1),
         }
     }

@@ -58,7 +58,7 @@ pub fn rust(direction: Direction, layout: u32, read: &[u8]) -> Side {
     side
 }
 
-/// This library's: a column of all rows, and where one is refused, a column of those behind it.
+/// This library's, by columns: one of all rows, and where one is refused, a column of those behind it.
 pub fn ours(direction: Direction, layout: u32, read: &[u8]) -> Side {
     let rows = read.len() / direction.read();
     let mut side = Side::new(direction, rows);
@@ -84,6 +84,21 @@ pub fn ours(direction: Direction, layout: u32, read: &[u8]) -> Side {
             };
             row += 1;
         }
+    }
+    side
+}
+
+/// This library's, by its single calls.
+pub fn single(direction: Direction, layout: u32, read: &[u8]) -> Side {
+    let mut side = Side::new(direction, read.len() / direction.read());
+    let written = side.written.chunks_exact_mut(direction.written());
+    let rows = read.chunks_exact(direction.read()).zip(written);
+    for (verdict, (read, written)) in side.verdicts.iter_mut().zip(rows) {
+        *verdict = match guarded(|| direction.single(layout, read, written)) {
+            Some(Ok(())) => Verdict::Done,
+            Some(Err(refusal)) => Verdict::Refused(refusal.number() as u8),
+            None => Verdict::Panics,
+        };
     }
     side
 }

@@ -1,7 +1,7 @@
 //! jiff's calendar, asked through the call that the Rust's `civil_fields` makes: for making questions, and for the
 //! recorder's list of the calendar.
 
-use crate::rust_side::count;
+use crate::counts::count;
 use jiff::civil::DateTime;
 use jiff::tz::Offset;
 use jiff::Timestamp;

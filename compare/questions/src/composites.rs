@@ -47,6 +47,11 @@ impl fmt::Display for Question {
     }
 }
 
+/// A number in its call's type, if it has one.
+pub fn typed<T: TryFrom<i64>>(number: i64) -> Option<T> {
+    T::try_from(number).ok()
+}
+
 pub fn filetime(low: i64, high: i64) -> Question {
     Question::Filetime { low, high }
 }

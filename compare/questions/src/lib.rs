@@ -3,6 +3,7 @@
 
 pub mod calendar;
 pub mod composites;
+pub mod counts;
 pub mod line;
 pub mod rows;
 pub mod rust_side;

@@ -1,6 +1,6 @@
 //! Rows of columns in bytes, as document 01 has them, and the Rust's codecs asked about a row.
 
-use crate::rust_side::{count, seconds_and_nanos};
+use crate::counts::{count, seconds_and_nanos};
 use timeglyph::PackedCodec;
 
 /// The bytes of a word.

@@ -13,7 +13,7 @@ use crate::lists::{Line, Part};
 use jiff::civil::DateTime;
 use jiff::tz::TimeZone;
 use questions::calendar::{fields_of, Fields};
-use questions::rust_side::NANOSECONDS_PER_SECOND;
+use questions::counts::NANOSECONDS_PER_SECOND;
 use questions::splitmix::SplitMix;
 
 const FIELDS_NOT_GOOD: &str = "refused 3";

@@ -11,8 +11,8 @@ pub use random::SEED;
 
 use crate::lists::{self, bad_line, part, Line, Part};
 use questions::composites::{each, number_boundaries, stamp_boundaries, Question};
+use questions::counts::instant;
 use questions::once;
-use questions::rust_side::instant;
 use questions::splitmix::SplitMix;
 use rules::Refused;
 

@@ -13,8 +13,8 @@ mod rules;
 mod stamps;
 
 use crate::lists::{self, bad_line, part, Line, List, Part};
+use questions::counts::instant;
 use questions::once;
-use questions::rust_side::instant;
 use questions::splitmix::SplitMix;
 use questions::words::{each, instant_boundaries, word_boundaries, Question};
 

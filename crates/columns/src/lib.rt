@@ -1,4 +1,4 @@
-// Columns of words and instants, for callers in other languages: two calls on lent bytes, exported under C's rules.
+// Columns of words and instants: two calls on lent bytes, which `sleetrick` exports.
 //
 // A column of words has 8 bytes a row, and a column of instants 12, as `rows` has them. Rows are done from the first until one is
 // refused. A call answers one number: the rows that are done times 16, plus the refusal, 0 for none. Rows that are done hold
@@ -17,8 +17,7 @@ use rows::Rows;
 use rows::rows_in;
 
 // Decodes a column of words to a column of instants.
-#[no_mangle]
-pub extern "C" fn sleetrick_decode_column(layout: u32, words: &[u8], instants: &mut [u8]) -> u64
+pub fn decode_column(layout: u32, words: &[u8], instants: &mut [u8]) -> u64
     ensures { λ r. ⌜ r ≡ answer (decodeColumn layout (now (words .entry)) (now (instants .entry))) ⌝ }
     ensures { λ _. ⌜ now (instants .exit) ≡ decodeColumn layout (now (words .entry)) (now (instants .entry)) .bytes ⌝ }
 {
@@ -36,8 +35,7 @@ pub extern "C" fn sleetrick_decode_column(layout: u32, words: &[u8], instants: &
 }
 
 // Encodes a column of instants to a column of words.
-#[no_mangle]
-pub extern "C" fn sleetrick_encode_column(layout: u32, instants: &[u8], words: &mut [u8]) -> u64
+pub fn encode_column(layout: u32, instants: &[u8], words: &mut [u8]) -> u64
     ensures { λ r. ⌜ r ≡ answer (encodeColumn layout (now (instants .entry)) (now (words .entry))) ⌝ }
     ensures { λ _. ⌜ now (words .exit) ≡ encodeColumn layout (now (instants .entry)) (now (words .entry)) .bytes ⌝ }
 {

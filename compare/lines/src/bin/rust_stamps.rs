@@ -2,8 +2,8 @@
 //! cuts lines where they lie, and writes their answers a block at a time; nothing is allocated for a line. The Rust's refusals
 //! have no number: `refused`.
 
+use questions::counts::{count, seconds_and_nanos};
 use questions::line::{question, LONGEST};
-use questions::rust_side::{count, seconds_and_nanos};
 use questions::words::layouts::NUMBERS;
 use questions::words::Question;
 use std::io::{self, Read, Write};

@@ -12,7 +12,8 @@
 //! The Rust's error has to be of the right kind too: `Render` is jiff's own refusal, for 3, and `OutOfRange` is for 2.
 
 use questions::composites::Question;
-use questions::rust_side::{composes, seconds_and_nanos};
+use questions::counts::seconds_and_nanos;
+use questions::rust_side::composes;
 use std::process;
 use timeglyph::{ChronoError, PosixNs};
 

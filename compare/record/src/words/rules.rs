@@ -21,7 +21,8 @@
 //! codec's, for the others.
 
 use questions::calendar::{fields_of, WINDOW_FIRST, WINDOW_LAST};
-use questions::rust_side::{decodes, encodes, NANOSECONDS_PER_SECOND};
+use questions::counts::NANOSECONDS_PER_SECOND;
+use questions::rust_side::{decodes, encodes};
 use questions::words::layouts::{Layout, NUMBERS};
 use questions::words::{decode, encode, Question};
 use std::process;
