@@ -19,7 +19,7 @@ use Rattle.byte_stamps.specs.Bytes.{wordAt, ofLength}
 use Rattle.byte_stamps.specs.OracleStamp.{oracleFields, oracleDate}
 use Rattle.byte_stamps.specs.Cp56Stamp.{cp56Fields, cp56}
 use Rattle.byte_stamps.specs.UdfStamp.{udfFields, udfMinutes, udfParts, moved, udfStamp}
-use Rattle.byte_stamps.specs.Promises.{StampAnswers}
+use Rattle.byte_stamps.specs.Promises.{ByteStampAnswers}
 
 seconds-for : (c : Civil) → RefusedWithin 3 10 (secondsFor c)
 seconds-for c = by-test (RefusedWithin 3 10) (good c) (gives (secondsOf c)) (refused 3) tt (omega arith, omega arith)
@@ -31,9 +31,9 @@ moved-within carry zone (refused n) h = h
 of-length : (n : ℕ) (b : List ℕ) (x : Answer Instant) → GoodWithin 3 10 x → GoodWithin 3 10 (ofLength n b x)
 of-length n b x h = by-test (GoodWithin 3 10) (eqb (length b) n) x (refused 10) h (omega arith, omega arith)
 
-pub stamp-answers : StampAnswers
+pub byte-stamp-answers : ByteStampAnswers
 unfolding oracleDate cp56 udfStamp
-stamp-answers b =
+byte-stamp-answers b =
     let oracle = secondsFor (oracleFields b) in
     let cp = secondsFor (cp56Fields b) in
     let udf = moved (udfParts b / 1000000000) (udfMinutes (wordAt b 0) *ℤ pos 60) (secondsFor (udfFields b)) in (

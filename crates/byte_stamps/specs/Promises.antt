@@ -7,5 +7,5 @@ use Rattle.byte_stamps.specs.Cp56Stamp.{cp56}
 use Rattle.byte_stamps.specs.UdfStamp.{udfStamp}
 
 -- a good instant, or a refusal under 3 to 10
-abbrev pub StampAnswers : Type 0
-StampAnswers = (stamp : List ℕ) → GoodWithin 3 10 (oracleDate stamp) × (GoodWithin 3 10 (cp56 stamp) × GoodWithin 3 10 (udfStamp stamp))
+abbrev pub ByteStampAnswers : Type 0
+ByteStampAnswers = (stamp : List ℕ) → GoodWithin 3 10 (oracleDate stamp) × (GoodWithin 3 10 (cp56 stamp) × GoodWithin 3 10 (udfStamp stamp))

@@ -9,11 +9,11 @@ use Rattle.refusal.proofs.Ranges.{by-test}
 use Rattle.instant.specs.Ranges.{GoodWithin}
 use Rattle.signed.proofs.Floor.{floor-law}
 use Rattle.number_stamps.specs.NumberStamps.{ticksOf, filetimeHilo, microsOf, vmsdPair, unixSecNsec}
-use Rattle.number_stamps.specs.Promises.{StampAnswers}
+use Rattle.number_stamps.specs.Promises.{NumberStampAnswers}
 
-pub stamp-answers : StampAnswers
+pub number-stamp-answers : NumberStampAnswers
 unfolding filetimeHilo vmsdPair unixSecNsec
-stamp-answers = (
+number-stamp-answers = (
   λ low high. by-test (GoodWithin 2 2) (ltb (ticksOf low high) (2 ^ 63)) _ (refused 2) (omega arith) (omega arith, omega arith),
   (
     λ high low. omega (arith, floor-law (microsOf high low) 1000000 (omega arith) .1),

@@ -14,17 +14,17 @@ use Rattle.instant.proofs.Ranges.{refused-within}
 use Rattle.registry.proofs.Refusals.{call-answers}
 use Rattle.registry.specs.Words.{decodeFor, encodeFor}
 use Rattle.number_stamps.specs.NumberStamps.{filetimeHilo, vmsdPair, unixSecNsec}
-use Rattle.number_stamps.proofs.Promises as numbers
+use Rattle.number_stamps.proofs.Promises.{number-stamp-answers}
 use Rattle.byte_stamps.specs.OracleStamp.{oracleDate}
 use Rattle.byte_stamps.specs.Cp56Stamp.{cp56}
 use Rattle.byte_stamps.specs.UdfStamp.{udfStamp}
-use Rattle.byte_stamps.proofs.Promises as stamps
+use Rattle.byte_stamps.proofs.Promises.{byte-stamp-answers}
 use Rattle.rows.specs.Cells.{instantBytes, wordBytes}
 use Rattle.sleetrick.specs.Calls.{handed, instantCall, wordCall}
-use Rattle.sleetrick.specs.Promises.{ReadsBack, Numbered, CallRefusals, Settled, EachSettled, OneAnswer}
+use Rattle.sleetrick.specs.Promises.{NumbersReadBack, Numbered, CallRefusals, Settled, EachSettled, OneAnswer}
 
-pub reads-back : ReadsBack
-reads-back count field refusal l h k = record { fits = omega arith; refusals = omega arith; fields = omega arith; counts = omega arith }
+pub numbers-read-back : NumbersReadBack
+numbers-read-back count field refusal l h k = record { fits = omega arith; refusals = omega arith; fields = omega arith; counts = omega arith }
 
 numbered : (low high : ℕ) (x : Answer Instant) → 1 ≤ low → high ≤ 13 → GoodWithin low high x → Numbered x
 numbered low high x l h g = wider low high 1 13 x l h (refused-within low high x g)
@@ -35,16 +35,16 @@ call-refusals = (
   (
     λ layout t. wider 1 9 1 13 (encodeFor layout t) (omega arith) (omega arith) (call-answers layout .1 t),
     (
-      λ low high. numbered 2 2 (filetimeHilo low high) (omega arith) (omega arith) (numbers.stamp-answers .0 low high),
+      λ low high. numbered 2 2 (filetimeHilo low high) (omega arith) (omega arith) (number-stamp-answers .0 low high),
       (
-        λ high low. numbered 1 0 (vmsdPair high low) (omega arith) (omega arith) (numbers.stamp-answers .1 .0 high low),
+        λ high low. numbered 1 0 (vmsdPair high low) (omega arith) (omega arith) (number-stamp-answers .1 .0 high low),
         (
-          λ s n. numbered 12 12 (unixSecNsec s n) (omega arith) (omega arith) (numbers.stamp-answers .1 .1 s n),
+          λ s n. numbered 12 12 (unixSecNsec s n) (omega arith) (omega arith) (number-stamp-answers .1 .1 s n),
           (
-            λ stamp. numbered 3 10 (oracleDate stamp) (omega arith) (omega arith) (stamps.stamp-answers stamp .0),
+            λ stamp. numbered 3 10 (oracleDate stamp) (omega arith) (omega arith) (byte-stamp-answers stamp .0),
             (
-              λ stamp. numbered 3 10 (cp56 stamp) (omega arith) (omega arith) (stamps.stamp-answers stamp .1 .0),
-              λ stamp. numbered 3 10 (udfStamp stamp) (omega arith) (omega arith) (stamps.stamp-answers stamp .1 .1),
+              λ stamp. numbered 3 10 (cp56 stamp) (omega arith) (omega arith) (byte-stamp-answers stamp .1 .0),
+              λ stamp. numbered 3 10 (udfStamp stamp) (omega arith) (omega arith) (byte-stamp-answers stamp .1 .1),
             ),
           ),
         ),

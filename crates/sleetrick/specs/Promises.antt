@@ -16,14 +16,14 @@ use Rattle.sleetrick.specs.Numbers.{tells}
 use Rattle.sleetrick.specs.Calls.{Left, instantCall, wordCall}
 
 -- a number fits 64 bits and reads back: the refusal, the field, and the length or count
-pub record Reads (number count field refusal : ℕ) : Type 0 where
+pub record NumberReads (number count field refusal : ℕ) : Type 0 where
   pub fits : number < 2 ^ 64
   pub refusals : number % 256 ≡ refusal
   pub fields : number / 256 % 256 ≡ field
   pub counts : number / 65536 ≡ count
 
-abbrev pub ReadsBack : Type 0
-ReadsBack = (count field refusal : ℕ) → count < 2 ^ 48 → field < 256 → refusal < 256 → Reads (tells count field refusal) count field refusal
+abbrev pub NumbersReadBack : Type 0
+NumbersReadBack = (count field refusal : ℕ) → count < 2 ^ 48 → field < 256 → refusal < 256 → NumberReads (tells count field refusal) count field refusal
 
 -- the calls on one value refuse under 1 to 13: no refusal is told as 0, and each fits its bits
 abbrev pub Numbered : {A : Type 0} → Answer A → Type 0
@@ -51,8 +51,8 @@ EachSettled =
     × ((answer : Answer ℤ) (old : List ℕ) → Numbered answer → Settled wordBytes old answer (wordCall answer old))
 
 -- one answer: all that the contract of a call allows, of its number and of the bytes that it was lent, is equal
-abbrev pub Leaves : Left → ℕ → List ℕ → Type 0
-Leaves left r bytes = (r ≡ left .number) × (bytes ≡ left .bytes)
+abbrev pub LeavesRow : Left → ℕ → List ℕ → Type 0
+LeavesRow left r bytes = (r ≡ left .number) × (bytes ≡ left .bytes)
 
 abbrev pub OneAnswer : Type 0
-OneAnswer = (left : Left) (r s : ℕ) (x y : List ℕ) → Leaves left r x → Leaves left s y → (r ≡ s) × (x ≡ y)
+OneAnswer = (left : Left) (r s : ℕ) (x y : List ℕ) → LeavesRow left r x → LeavesRow left s y → (r ≡ s) × (x ≡ y)
