@@ -1,4 +1,6 @@
 -- The promise of specs/Promises. Assumes nothing.
+use mathlib.Core.Path.{_≡_, refl}
+use mathlib.Core.Bool.{Bool, true, false}
 use mathlib.Core.List.{List}
 use Prim.Native.Nat.{ℕ, _*_, _/_, _%_}
 use native.Mathlib.Omega.{arith}
@@ -29,7 +31,11 @@ moved-within carry zone (gives s) h = tt
 moved-within carry zone (refused n) h = h
 
 of-length : (n : ℕ) (b : List ℕ) (x : Answer Instant) → GoodWithin 3 10 x → GoodWithin 3 10 (ofLength n b x)
-of-length n b x h = by-test (GoodWithin 3 10) (eqb (length b) n) x (refused 10) h (omega arith, omega arith)
+of-length n b x h = go (eqb (length b) n) refl
+  where
+    go : (t : Bool) → eqb (length b) n ≡ t → GoodWithin 3 10 (ofLength n b x)
+    go true e = rw e h
+    go false e = rw e (omega arith, omega arith)
 
 pub byte-stamp-answers : ByteStampAnswers
 unfolding oracleDate cp56 udfStamp

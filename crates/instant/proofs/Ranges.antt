@@ -1,7 +1,6 @@
--- What an answer about an instant may be: the numbers alone, a wider range, and an instant of some seconds. Assumes nothing.
+-- What an answer about an instant may be: its numbers alone, and an instant of some seconds. Assumes nothing.
 use Prim.Native.Nat.{ℕ, _≤_}
 use lib.IntN.{ℤ}
-use native.Mathlib.Omega.{arith}
 use Rattle.refusal.specs.Answers.{Answer, gives, refused}
 use Rattle.refusal.specs.Ranges.{RefusedWithin}
 use Rattle.instant.specs.Answers.{atNanos}
@@ -11,10 +10,6 @@ use Rattle.instant.specs.declared.instants.Instant.{Instant}
 pub refused-within : (low high : ℕ) (x : Answer Instant) → GoodWithin low high x → RefusedWithin low high x
 refused-within low high (gives t) h = tt
 refused-within low high (refused n) h = h
-
-pub good-wider : (low high low′ high′ : ℕ) (x : Answer Instant) → low′ ≤ low → high ≤ high′ → GoodWithin low high x → GoodWithin low′ high′ x
-good-wider low high low′ high′ (gives t) l h k = k
-good-wider low high low′ high′ (refused n) l h k = (omega arith, omega arith)
 
 pub at-nanos : (low high n : ℕ) (x : Answer ℤ) → n ≤ 999999999 → RefusedWithin low high x → GoodWithin low high (atNanos n x)
 at-nanos low high n (gives s) l h = l

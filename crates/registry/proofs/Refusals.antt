@@ -8,11 +8,11 @@ use lib.IntN.{ℤ, pos, negsuc, negℤ, _+ℤ_, _-ℤ_}
 use lib.Signed.{leZ, ltZ}
 use Rattle.refusal.specs.Answers.{Answer, gives, refused}
 use Rattle.refusal.specs.Ranges.{RefusedWithin}
-use Rattle.refusal.proofs.Ranges.{by-test, wider}
+use Rattle.refusal.proofs.Ranges.{by-test}
 use Rattle.signed.specs.Floor.{floorDiv, floorRem}
 use Rattle.instant.specs.Answers.{atNanos, withNanos}
 use Rattle.instant.specs.Ranges.{GoodWithin}
-use Rattle.instant.proofs.Ranges.{good-wider, at-nanos}
+use Rattle.instant.proofs.Ranges.{at-nanos}
 use Rattle.instant.specs.declared.instants.Instant.{Instant}
 use Rattle.day_time.specs.declared.times.Civil as civil
 use Rattle.day_time.specs.Times.{good, inWindow, secondsOf, fieldsAt}
@@ -24,11 +24,9 @@ use Rattle.unpacking.specs.Reading.{fieldsIn, readBy}
 use Rattle.packing.specs.Writing.{writes, writeFields}
 use Rattle.counts.specs.Nokia.{nokiaDecode, nokiaWord, nokiaEncode}
 use Rattle.counts.specs.Sql.{sqlTicks, sqlDecode, dayWord, nearestTick, sqlWord, sqlEncode}
-use Rattle.registry.specs.Words.{secondsIn, localDecode, lessZone, inZone, thenZone, fieldsDecode, fieldsEncode, ruleFor, decodeBy, encodeBy, decodeWith, encodeWith}
-use Rattle.registry.specs.Promises.{PickedBy, DecoderAnswers, EncoderRefusals, CallAnswers, NanosFirst}
-use Rattle.registry.specs.declared.rules.Rule.{Rule}
+use Rattle.registry.specs.Words.{secondsIn, localDecode, lessZone, inZone, thenZone, fieldsDecode, fieldsEncode}
+use Rattle.registry.specs.Promises.{DecoderAnswers, EncoderRefusals, NanosFirst}
 use Rattle.registry.specs.declared.rules.Rule.the-variants.{Civil, NokiaLe, SqlServer}
-use Rattle.registry.proofs.RuleNumbers.{every-number}
 
 -- ---- decoding
 
@@ -88,19 +86,6 @@ encoder-refusals (Civil k) t =
     (writing l (fieldsFor (t .seconds)) (by-test (RefusedWithin 6 9) (inWindow (t .seconds)) (gives (fieldsAt (t .seconds))) (refused 6) tt (omega arith, omega arith)))
 encoder-refusals NokiaLe t = with-nanos t _ (nokia (t .seconds +ℤ pos 4294967295 -ℤ pos 2524608000))
 encoder-refusals SqlServer t = with-nanos t _ (sql (t .seconds +ℤ pos 2208988800) (t .nanos))
-
--- ---- with the layout's number
-
-decoded : (n : ℕ) (x : Answer Rule) → PickedBy n x → (w : ℕ) → GoodWithin 1 5 (decodeWith x w)
-decoded n (gives r) p w = good-wider 2 5 1 5 (decodeBy r w) (omega arith) (omega arith) (decoder-answers r w)
-decoded n (refused k) p w = (omega (arith, p .0), omega (arith, p .0))
-
-encoded : (n : ℕ) (x : Answer Rule) → PickedBy n x → (t : Instant) → RefusedWithin 1 9 (encodeWith x t)
-encoded n (gives r) p t = wider 6 9 1 9 (encodeBy r t) (omega arith) (omega arith) (encoder-refusals r t)
-encoded n (refused k) p t = (omega (arith, p .0), omega (arith, p .0))
-
-pub call-answers : CallAnswers
-call-answers n = (decoded n (ruleFor n) (every-number n), encoded n (ruleFor n) (every-number n))
 
 pub nanos-first : NanosFirst
 unfolding fieldsEncode nokiaEncode sqlEncode

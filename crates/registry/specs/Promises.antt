@@ -8,7 +8,7 @@ use Rattle.instant.specs.Ranges.{GoodWithin}
 use Rattle.instant.specs.declared.instants.Instant.{Instant}
 use Rattle.layouts.specs.declared.kinds.Kind.{Kind}
 use Rattle.layouts.specs.declared.kinds.Kind.the-variants.{FatDos, ExFat, Dttm, BitDate, BitDec, Bcd, Moto, Symantec, Dvr, Ns40, Ns40Le, LogTime, SemiOctet, Gsm}
-use Rattle.registry.specs.Words.{ruleFor, decodeBy, encodeBy, decodeFor, encodeFor}
+use Rattle.registry.specs.Words.{ruleFor, decodeBy, encodeBy}
 use Rattle.registry.specs.Answers.{readPicked}
 use Rattle.registry.specs.declared.rules.Rule.{Rule}
 use Rattle.registry.specs.declared.rules.Rule.the-variants.{Civil, NokiaLe, SqlServer}
@@ -54,10 +54,6 @@ DecoderAnswers = (r : Rule) (w : ℕ) → GoodWithin 2 5 (decodeBy r w)
 
 abbrev pub EncoderRefusals : Type 0
 EncoderRefusals = (r : Rule) (t : Instant) → RefusedWithin 6 9 (encodeBy r t)
-
--- so does a call with the layout's number, which may be refused under 1
-abbrev pub CallAnswers : Type 0
-CallAnswers = (n : ℕ) → ((w : ℕ) → GoodWithin 1 5 (decodeFor n w)) × ((t : Instant) → RefusedWithin 1 9 (encodeFor n t))
 
 -- nanoseconds above 999,999,999 are refused under 9, whatever else is wrong
 abbrev pub NanosFirst : Type 0

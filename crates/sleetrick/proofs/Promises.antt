@@ -11,8 +11,11 @@ use Rattle.refusal.proofs.Ranges.{wider}
 use Rattle.instant.specs.Ranges.{GoodWithin}
 use Rattle.instant.specs.declared.instants.Instant.{Instant}
 use Rattle.instant.proofs.Ranges.{refused-within}
-use Rattle.registry.proofs.Refusals.{call-answers}
-use Rattle.registry.specs.Words.{decodeFor, encodeFor}
+use Rattle.registry.specs.Words.{ruleFor, decodeBy, encodeBy, decodeWith, encodeWith}
+use Rattle.registry.specs.Promises.{PickedBy}
+use Rattle.registry.specs.declared.rules.Rule.{Rule}
+use Rattle.registry.proofs.RuleNumbers.{every-number}
+use Rattle.registry.proofs.Refusals.{decoder-answers, encoder-refusals}
 use Rattle.number_stamps.specs.NumberStamps.{filetimeHilo, vmsdPair, unixSecNsec}
 use Rattle.number_stamps.proofs.Promises.{number-stamp-answers}
 use Rattle.byte_stamps.specs.OracleStamp.{oracleDate}
@@ -29,11 +32,20 @@ numbers-read-back count field refusal l h k = record { fits = omega arith; refus
 numbered : (low high : ℕ) (x : Answer Instant) → 1 ≤ low → high ≤ 13 → GoodWithin low high x → Numbered x
 numbered low high x l h g = wider low high 1 13 x l h (refused-within low high x g)
 
+-- with the layout's number, which may be refused under 1
+decoded : (n : ℕ) (x : Answer Rule) → PickedBy n x → (w : ℕ) → Numbered (decodeWith x w)
+decoded n (gives r) p w = numbered 2 5 (decodeBy r w) (omega arith) (omega arith) (decoder-answers r w)
+decoded n (refused k) p w = (omega (arith, p .0), omega (arith, p .0))
+
+encoded : (n : ℕ) (x : Answer Rule) → PickedBy n x → (t : Instant) → Numbered (encodeWith x t)
+encoded n (gives r) p t = wider 6 9 1 13 (encodeBy r t) (omega arith) (omega arith) (encoder-refusals r t)
+encoded n (refused k) p t = (omega (arith, p .0), omega (arith, p .0))
+
 pub call-refusals : CallRefusals
 call-refusals = (
-  λ layout word. numbered 1 5 (decodeFor layout word) (omega arith) (omega arith) (call-answers layout .0 word),
+  λ layout word. decoded layout (ruleFor layout) (every-number layout) word,
   (
-    λ layout t. wider 1 9 1 13 (encodeFor layout t) (omega arith) (omega arith) (call-answers layout .1 t),
+    λ layout t. encoded layout (ruleFor layout) (every-number layout) t,
     (
       λ low high. numbered 2 2 (filetimeHilo low high) (omega arith) (omega arith) (number-stamp-answers .0 low high),
       (
