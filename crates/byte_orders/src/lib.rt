@@ -3,6 +3,8 @@
 // Every call is total: a word may have any 64 bits.
 //
 // Ported from timeglyph's src/registry.rs (Apache-2.0; see NOTICE), and changed.
+#![tactic(auto)]
+
 ghost use Rattle.std.specs.Prelude.{◌≡◌};
 ghost use Rattle.byte_orders.specs.Orders.{reversed, year_swapped};
 

@@ -3,6 +3,8 @@
 //
 // Every call is total: it answers the instant, or a refusal and nothing else. A stamp may have any length, and a wrong one is
 // refused before its bytes are looked at.
+#![tactic(auto)]
+
 mod bytes;
 mod cp56_stamp;
 mod oracle_stamp;

@@ -1,5 +1,7 @@
 // The calendar's first engine: six fields to seconds and seconds to six fields, for every input. Each call takes the same time
 // for every year. `year_walk` is the plain engine beside it, and `day_time` has what both share.
+#![tactic(auto)]
+
 ghost use Rattle.std.specs.Prelude.{◌≡◌, ◌<◌, ◌*◌, ◌^◌, true, nat_abs, pos, ◌+ℤ◌};
 ghost use Rattle.signed.specs.Floor.{floor_div, floor_rem};
 ghost use Rattle.gregorian.specs.Gregorian.{epoch_day};

@@ -3,6 +3,8 @@
 // A column of words has 8 bytes a row, and a column of instants 12, as `rows` has them. Rows are done from the first until one is
 // refused. A call answers one number: the rows that are done times 16, plus the refusal, 0 for none. Rows that are done hold
 // their results; later rows of the output and the whole input keep their bytes.
+#![tactic(auto)]
+
 ghost use Rattle.std.specs.Prelude.{◌≡◌};
 ghost use Rattle.columns.specs.Columns.{decode_column, encode_column, answer};
 

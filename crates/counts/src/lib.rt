@@ -1,4 +1,6 @@
 // The two words that count from an epoch: layout 15, Nokia's seconds, and layout 16, SQL Server's days and ticks.
+#![tactic(auto)]
+
 mod nokia;
 mod sql;
 

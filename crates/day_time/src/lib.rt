@@ -3,6 +3,8 @@
 //
 // Seconds count from 1970-01-01 UTC and are negative before. A civil time has seconds where its date is one of the years
 // -9999 to 9999, its time of day is one, and its seconds lie in the civil window.
+#![tactic(auto)]
+
 mod times;
 
 pub use times::{Civil, Fields, Seconds, on_date, seconds_on};

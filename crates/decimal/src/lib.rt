@@ -1,5 +1,7 @@
 // Numbers as decimal text: read from bytes, and written to bytes. Text is plain bytes, so there is no locale, no plus
 // sign and no separator; a number is a signed 64-bit one. No public function has a `requires`.
+#![tactic(auto)]
+
 mod read;
 mod write;
 

@@ -3,6 +3,8 @@
 //
 // Both take the same time for every year. Inside, years and days are counted from 1 January -10000, so that they are never
 // negative: 10000 is a multiple of 400, and the leap rule reads the same.
+#![tactic(auto)]
+
 mod dates;
 mod months;
 mod years;

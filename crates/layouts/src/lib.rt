@@ -1,5 +1,7 @@
 // The layouts 1 to 14: civil fields at fixed places of a word. Each is an instance of one description, `Layout`; `unpacking`
 // reads a word by it, and `packing` writes one. The layouts 15 and 16 have no fields, and are in `counts`.
+#![tactic(auto)]
+
 mod kinds;
 mod layouts;
 mod pairs;

@@ -6,6 +6,8 @@
 // more than a line may have knows one that is too long, however long it is.
 //
 // No public function has a `requires`.
+#![tactic(auto)]
+
 mod held;
 mod turns;
 

@@ -1,4 +1,6 @@
 // The line program as a function on bytes: one line to its answer. A stream of lines is left to `stream`.
+#![tactic(auto)]
+
 mod answers;
 mod questions;
 

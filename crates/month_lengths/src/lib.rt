@@ -1,6 +1,8 @@
 // The lengths of years and months: the leap rule, and the table of the months.
 //
 // Years are counted from -10000 here, and months from 0: 10000 is a multiple of 400, so the leap rule reads the same.
+#![tactic(auto)]
+
 ghost use Rattle.std.specs.Prelude.{◌≡◌, slice_index};
 ghost use Rattle.month_lengths.specs.Lengths.{leap, months, year_at};
 

@@ -1,10 +1,10 @@
 -- The promise of specs/Promises. Assumes nothing.
-use Prim.Native.Nat.{◌*◌, ◌+◌, ◌%◌, ◌/◌, ◌^◌, ◌≤◌}
+use Prim.Native.Nat.{◌/◌, ◌^◌}
 use native.Mathlib.Omega.{arith}
 use lib.Dec.{ltb}
 use lib.IntN.{pos, ◌+ℤ◌}
 use lib.Signed.{lt_z}
-use Rattle.refusal.specs.Answers.{gives, refused}
+use Rattle.refusal.specs.Answers.{refused}
 use Rattle.refusal.proofs.Ranges.{by_test}
 use Rattle.instant.specs.Ranges.{GoodWithin}
 use Rattle.signed.proofs.Floor.{floor_law}

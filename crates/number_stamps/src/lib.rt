@@ -3,6 +3,8 @@
 // Every call is total: it answers the instant, or a refusal and nothing else.
 //
 // Ported from timeglyph's src/compose.rs (Apache-2.0; see NOTICE), and changed.
+#![tactic(auto)]
+
 ghost use Rattle.std.specs.Prelude.{◌≡◌};
 ghost use Rattle.instant.specs.Answers.{read_decoded};
 ghost use Rattle.number_stamps.specs.NumberStamps.{filetime_hilo, vmsd_pair, unix_sec_nsec};

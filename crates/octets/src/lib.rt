@@ -1,6 +1,8 @@
 // Numbers as bytes, the low byte first. This is the one place that has that order; whoever keeps numbers in bytes calls it.
 //
 // Every call is total: a slice may have any length.
+#![tactic(auto)]
+
 ghost use Rattle.std.specs.Prelude.{◌≡◌, ◌+◌, ◌*◌, ◌≤◌, length, take, slice_index};
 ghost use Rattle.octets.specs.Octets.{number_of, bytes_of};
 

@@ -2,6 +2,8 @@
 // users are given (docs/LAYOUTS.md).
 //
 // A refusal is a struct, not a bare number, so that no caller can take it for a value, and so that it can carry more one day.
+#![tactic(auto)]
+
 #[derive(Drop)]
 pub struct Refusal {
     pub number: u32,

@@ -19,6 +19,8 @@
 // What can't be read or written is said on standard error, and ends the program, as in the line program.
 //
 // Nothing is proved here of what is written: the program is safe, ends, and is run on lists of recorded answers.
+#![tactic(auto)]
+
 mod answers;
 mod asks_byte_stamps;
 mod asks_calendar;

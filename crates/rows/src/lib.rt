@@ -2,6 +2,8 @@
 // those bytes; the order of the bytes of a number is that of `octets`.
 //
 // Every call is total: a slice may have any length.
+#![tactic(auto)]
+
 mod cells;
 mod counted;
 

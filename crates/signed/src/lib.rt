@@ -1,5 +1,7 @@
 // Signed numbers, exact below zero: division and remainder rounded down, a number's 64 bits and back, and a low part of
 // a word read as signed. Every function is total: dividing by zero answers 0, and a width above 63 takes all 64 bits.
+#![tactic(auto)]
+
 ghost use Rattle.std.specs.Prelude.{◌≡◌, ◌<◌, ◌≤◌, ◌^◌};
 ghost use Rattle.std.specs.Int.Signed.{mag};
 ghost use Rattle.std.specs.Int.{w64, cast_signed, cast_unsigned};

@@ -4,6 +4,8 @@
 // A call takes numbers and lent bytes, and answers one number. A result is written over one row of lent bytes, an instant over
 // 12 and a word over 8, as `rows` has them, and only where the call answers 0; otherwise the bytes stay, and the number is the
 // refusal, which is 11 where the bytes are not one row. specs/Numbers.antt has what else a number can say.
+#![tactic(auto)]
+
 ghost use Rattle.std.specs.Prelude.{◌≡◌};
 ghost use Rattle.std.specs.Int.{w64, cast_unsigned};
 ghost use Rattle.instant.specs.Instants.{at};

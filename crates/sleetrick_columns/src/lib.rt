@@ -3,6 +3,8 @@
 //
 // They stand in a crate of their own because a crate is compiled as one: here all that a row goes through has one caller, and
 // the compiler puts it into the loop over the rows.
+#![tactic(auto)]
+
 ghost use Rattle.std.specs.Prelude.{◌≡◌};
 ghost use Rattle.columns.specs.Columns.{decode_column, encode_column, answer};
 

@@ -10,6 +10,8 @@
 //
 // What can't be read or written is said on standard error, and ends the program: the language has no exit status, and answers
 // that are cut off must not be taken for all of them. Of a reader that went away nothing is said.
+#![tactic(auto)]
+
 ghost use Rattle.std.specs.Prelude.{◌≤◌, ◌<◌, length};
 
 use libc::{EINTR, EPIPE, STDIN_FILENO, STDOUT_FILENO};

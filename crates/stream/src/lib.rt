@@ -3,6 +3,8 @@
 //
 // What is held from block to block is the line that is not finished: its first 65 bytes, one more than a line may have, so
 // that one that is too long is known for what it is however long it gets.
+#![tactic(auto)]
+
 ghost use Rattle.std.specs.Prelude.{◌≡◌, ◌+◌, ◌≤◌, length};
 ghost use Rattle.texts.specs.Buffer.{written};
 ghost use Rattle.line_input.specs.Held.{holds};

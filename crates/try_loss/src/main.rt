@@ -14,6 +14,8 @@
 // apart. Where a line can't be written, that is said on standard error, and the program ends.
 //
 // Nothing is proved here of what is written: the program is safe, ends, and is run.
+#![tactic(auto)]
+
 mod day;
 mod known;
 mod steps;

@@ -3,6 +3,8 @@
 //
 // It adds up the lengths that the definition of the calendar adds up: slower than `civil`, and plain to read. Both meet
 // the same contracts, which allow one answer, so they agree on every input.
+#![tactic(auto)]
+
 ghost use Rattle.std.specs.Prelude.{◌≡◌};
 ghost use Rattle.day_time.specs.Answers.{read_seconds, read_fields, seconds_for, fields_for};
 
