@@ -9,7 +9,7 @@ ghost use Rattle.std.specs.Prelude.{◌≡◌};
 ghost use Rattle.byte_orders.specs.Orders.{reversed, year_swapped};
 
 // The order of the word's bytes, from that of the fields' places.
-#[derive(Drop)]
+#[derive(Clone, Copy)]
 pub enum Order {
     Straight,
     // The low four bytes are reversed.

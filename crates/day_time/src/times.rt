@@ -9,7 +9,7 @@ use instant::Instant;
 use refusal::Refusal;
 
 // A civil time in UTC. Months and days count from 1.
-#[derive(Drop)]
+#[derive(Clone, Copy)]
 pub struct Civil {
     pub year: i64,
     pub month: u64,
@@ -20,7 +20,7 @@ pub struct Civil {
 }
 
 // The seconds of a civil time, or why there are none.
-#[derive(Drop)]
+#[derive(Clone, Copy)]
 pub enum Seconds {
     Gives(i64),
     Refused(Refusal),
@@ -39,7 +39,7 @@ impl Seconds {
 }
 
 // The civil time of some seconds, or why there is none.
-#[derive(Drop)]
+#[derive(Clone, Copy)]
 pub enum Fields {
     Gives(Civil),
     Refused(Refusal),

@@ -6,7 +6,7 @@ use signed::to_bits;
 use std::num::wrapping_sub_u64;
 
 // A text of at most 20 bytes, as many as an i64 takes: it stands from index `from` to the end of `bytes`.
-#[derive(Drop)]
+#[derive(Clone, Copy)]
 pub struct Text {
     pub bytes: [u8; 20],
     pub from: usize,

@@ -14,7 +14,7 @@ use month_lengths::{is_leap, length_of_month};
 use refusal::Refusal;
 
 // The day number of a date, or why there is none.
-#[derive(Drop)]
+#[derive(Clone, Copy)]
 pub enum Day {
     Gives(i64),
     Refused(Refusal),
@@ -33,7 +33,7 @@ impl Day {
 }
 
 // A date. Months and days count from 1.
-#[derive(Drop)]
+#[derive(Clone, Copy)]
 pub struct Date {
     pub year: i64,
     pub month: u64,
@@ -41,7 +41,7 @@ pub struct Date {
 }
 
 // The date of a day number, or why there is none.
-#[derive(Drop)]
+#[derive(Clone, Copy)]
 pub enum Dated {
     Gives(Date),
     Refused(Refusal),

@@ -24,7 +24,7 @@ pub fn days_before_month(leap: bool, month: u64) -> u64
 }
 
 // A month, and the days that have passed in it.
-#[derive(Drop)]
+#[derive(Clone, Copy)]
 pub struct MonthDay {
     pub month: u64,
     pub left: u64,

@@ -12,7 +12,7 @@ pub fn days_before_year(years: u64) -> u64
 }
 
 // A year, and the days that have passed in it.
-#[derive(Drop)]
+#[derive(Clone, Copy)]
 pub struct YearDay {
     pub years: u64,
     pub left: u64,

@@ -7,7 +7,7 @@ use crate::instants::Instant;
 use refusal::Refusal;
 
 // The instant that a stamp says, or why it says none.
-#[derive(Drop)]
+#[derive(Clone, Copy)]
 pub enum Decoded {
     Gives(Instant),
     Refused(Refusal),
@@ -26,7 +26,7 @@ impl Decoded {
 }
 
 // The word of an instant, or why it has none.
-#[derive(Drop)]
+#[derive(Clone, Copy)]
 pub enum Encoded {
     Gives(i64),
     Refused(Refusal),

@@ -3,7 +3,7 @@ ghost use Rattle.std.specs.Prelude.{◌≡◌};
 ghost use Rattle.instant.specs.Instants.{at, is_before};
 
 // Seconds since 1970-01-01 UTC, and nanoseconds counted forwards: half a second before 1970 is -1 and 500,000,000.
-#[derive(Drop)]
+#[derive(Clone, Copy)]
 pub struct Instant {
     pub seconds: i64,
     pub nanos: u32,

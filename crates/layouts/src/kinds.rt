@@ -10,7 +10,7 @@ use crate::layouts::{
 };
 
 // The layouts 1 to 14, in the order of their numbers.
-#[derive(Drop)]
+#[derive(Clone, Copy)]
 pub enum Kind {
     FatDos,
     ExFat,

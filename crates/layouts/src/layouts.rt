@@ -7,7 +7,7 @@ ghost use Rattle.layouts.specs.Layouts.{pair_layout};
 use byte_orders::Order;
 
 // How the number that is stored in a field gives the field's value, before its offset and step.
-#[derive(Drop)]
+#[derive(Clone, Copy)]
 pub enum Digits {
     // The number itself. Places and widths are in bits.
     Bits,
@@ -20,7 +20,7 @@ pub enum Digits {
 }
 
 // `width` places from `place` on. The field's value is `offset` and `step` times what is stored.
-#[derive(Drop)]
+#[derive(Clone, Copy)]
 pub struct Field {
     pub place: u32,
     pub width: u32,
@@ -28,7 +28,7 @@ pub struct Field {
     pub step: u64,
 }
 
-#[derive(Drop)]
+#[derive(Clone, Copy)]
 pub struct Layout {
     pub digits: Digits,
     pub order: Order,

@@ -4,7 +4,7 @@ ghost use Rattle.line_input.specs.Held.{holds, kept, Takes};
 
 // After a part of a block was taken: how many bytes of the line are held, the index behind the last byte that was taken,
 // and whether that was the line's LF.
-#[derive(Drop)]
+#[derive(Clone, Copy)]
 pub struct Taken {
     pub held: usize,
     pub next: usize,

@@ -9,7 +9,7 @@ use texts::{after_space, before_space};
 const LONGEST: usize = 64;
 
 // A layout and a word; a layout, seconds and nanoseconds; or nothing that this program answers.
-#[derive(Drop)]
+#[derive(Clone, Copy)]
 pub enum Question {
     Decode(i64, i64),
     Encode(i64, i64, i64),

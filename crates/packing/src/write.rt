@@ -14,7 +14,7 @@ use refusal::Refusal;
 use signed::to_bits;
 
 // The bits of a civil time, or why it has none.
-#[derive(Drop)]
+#[derive(Clone, Copy)]
 pub enum Packed {
     Gives(u64),
     Refused(Refusal),

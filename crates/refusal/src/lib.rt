@@ -4,7 +4,7 @@
 // A refusal is a struct, not a bare number, so that no caller can take it for a value, and so that it can carry more one day.
 #![tactic(auto)]
 
-#[derive(Drop)]
+#[derive(Clone, Copy)]
 pub struct Refusal {
     pub number: u32,
 }

@@ -10,7 +10,7 @@ use layouts::Kind;
 use refusal::Refusal;
 
 // Civil fields of a kind, and two that count from an epoch.
-#[derive(Drop)]
+#[derive(Clone, Copy)]
 pub enum Rule {
     Civil(Kind),
     NokiaLe,
@@ -18,7 +18,7 @@ pub enum Rule {
 }
 
 // The rule of a layout number, or why there is none.
-#[derive(Drop)]
+#[derive(Clone, Copy)]
 pub enum Picked {
     Gives(Rule),
     Refused(Refusal),

@@ -22,7 +22,7 @@ fn digit_of(b: u8) -> u8 {
 }
 
 // What a text is.
-#[derive(Drop)]
+#[derive(Clone, Copy)]
 pub enum Hex {
     Bytes(usize),
     Not,

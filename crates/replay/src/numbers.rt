@@ -9,13 +9,13 @@ pub const LARGEST: u64 = 9223372036854775807;
 const LARGEST_OF_32_BITS: u64 = 4294967295;
 
 // What a number is in 32 bits, unsigned and signed.
-#[derive(Drop)]
+#[derive(Clone, Copy)]
 pub enum Unsigned {
     Is(u32),
     Not,
 }
 
-#[derive(Drop)]
+#[derive(Clone, Copy)]
 pub enum Signed {
     Is(i32),
     Not,

@@ -10,7 +10,7 @@ use refusal::Refusal;
 const MOST: usize = 1048576;
 
 // How many rows there are, or why they are not taken.
-#[derive(Drop)]
+#[derive(Clone, Copy)]
 pub enum Rows {
     Gives(usize),
     Refused(Refusal),

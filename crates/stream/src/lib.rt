@@ -17,7 +17,7 @@ use texts::first;
 
 // After a block was fed, or a part of it: how many of its bytes were taken, how many bytes are held, and how many were
 // written.
-#[derive(Drop)]
+#[derive(Clone, Copy)]
 pub struct Fed {
     pub taken: usize,
     pub held: usize,

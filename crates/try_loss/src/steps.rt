@@ -7,7 +7,7 @@ use signed::{from_bits, rem_floor, to_bits};
 use std::num::{wrapping_add_u64, wrapping_sub_u64};
 
 // The seconds between two words of a layout, and the first and the last second that it writes.
-#[derive(Drop)]
+#[derive(Clone, Copy)]
 pub struct Row {
     pub layout: u32,
     pub step: u64,

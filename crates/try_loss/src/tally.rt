@@ -3,14 +3,14 @@ use libc::{EPIPE, STDOUT_FILENO};
 use texts::{first, put};
 
 // What came of one try.
-#[derive(Drop)]
+#[derive(Clone, Copy)]
 pub enum Outcome {
     Right,
     Refused,
     Wrong,
 }
 
-#[derive(Drop)]
+#[derive(Clone, Copy)]
 pub struct Tally {
     pub right: u64,
     pub refused: u64,
@@ -68,7 +68,7 @@ impl Tally {
 }
 
 // Of all lines so far: how many tries were wrong, and whether every line was written.
-#[derive(Drop)]
+#[derive(Clone, Copy)]
 pub struct Total {
     pub wrong: u64,
     pub written: bool,

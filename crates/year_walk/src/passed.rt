@@ -1,5 +1,5 @@
 // What has passed at the start of a day: whole years, or whole months of a year, and the days after them.
-#[derive(Drop)]
+#[derive(Clone, Copy)]
 pub struct Passed {
     pub whole: u64,
     pub left: u64,

@@ -1,0 +1,16 @@
+-- `bits_in` meets its contract: its six values are those of the fields. Assumes nothing.
+use mathlib.Core.Path.{sym}
+use mir.Syntax.{w64}
+use mir.Facts.{to_z_pos}
+use Rattle.layouts.specs.declared.layouts.Digits.TheVariants.{Bits}
+use Rattle.unpacking.proofs.Values.{fields_are}
+use native.Mathlib.Omega.{arith}
+use Rattle.unpacking.proofs.read.bits_in.Goals as goal
+
+pub returns : goal.returns
+returns c =
+    let s = c in
+    let y = c.bits_at-year in
+    rw (to_z_pos w64 {n = y.result} (omega (arith, y.ensures.1)))
+    (sym (fields_are s.args.l s.args.p Bits _ _ _ _ _ _ s.requires.1 y.ensures.0 c.bits_at.ensures.0 c.bits_at-2.ensures.0
+    c.bits_at-3.ensures.0 c.bits_at-4.ensures.0 c.bits_at-5.ensures.0))
