@@ -11,13 +11,7 @@ use Rattle.day_time.specs.Times.{in_window, on_date}
 use Rattle.day_time.proofs.Window.{window_good}
 use Rattle.day_time.proofs.Days.{window_day, some_date}
 use Rattle.year_walk.proofs.fields_of.Goals as goal
-use Rattle.year_walk.proofs.fields_of.Goals.{After-div_floor, Else-seconds-gt-LAST}
-
-good : (c : Else-seconds-gt-LAST) → in_window c.args.seconds ≡ true
-good c =
-    let s = c in
-    let f = to_z-of_z s.ranges.seconds in
-    window_good s.args.seconds (rw f at c.if-seconds-lt-FIRST.false) (rw f at c.if-seconds-gt-LAST.false)
+use Rattle.year_walk.proofs.fields_of.Goals.{After-div_floor}
 
 -- the day's number, as the machine reads it back
 day : (c : After-div_floor) → to_z w64 (of_z w64 c.div_floor.result) ≡ floor_div c.args.seconds 86400
@@ -25,13 +19,18 @@ day c =
     to_z-of_z {w = w64} (record { sfits = c.div_floor.type_inv })
     ∙ (rw (to_z-of_z c.ranges.seconds) at c.div_floor.ensures)
 
+good : (c : After-div_floor) → in_window c.args.seconds ≡ true
+good c =
+    let f = to_z-of_z c.ranges.seconds in
+    window_good c.args.seconds (rw f at c.if-seconds-lt-FIRST.false) (rw f at c.if-seconds-gt-LAST.false)
+
 pub date_of-date-requires : goal.date_of-date-requires
-date_of-date-requires c = rw (day (goal.at.date_of-date-requires c).After-div_floor) (window_day c.args.seconds (good (goal.at.date_of-date-requires c).Else-seconds-gt-LAST))
+date_of-date-requires c = rw (day c) (window_day c.args.seconds (good c))
 
 pub returns : goal.returns
 returns c =
-    let s = n in
-    let w = good n in
-    let d = c.date_of-date.ensures ∙ ap date_at (day n) in
-    let t = rw (to_z-of_z s.ranges.seconds) at c.rem_floor.ensures in
-    ap gives (c.on_date.ensures ∙ (λ i. on_date (d i) (t i))) ∙ some_date s.args.seconds w (rw (window_day s.args.seconds w))
+    let f = (goal.at.returns c).After-div_floor in
+    let w = good f in
+    let d = c.date_of-date.ensures ∙ ap date_at (day f) in
+    let t = rw (to_z-of_z c.ranges.seconds) at c.rem_floor.ensures in
+    ap gives (c.on_date.ensures ∙ (λ i. on_date (d i) (t i))) ∙ some_date c.args.seconds w (rw (window_day c.args.seconds w))

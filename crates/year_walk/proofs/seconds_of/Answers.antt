@@ -10,18 +10,12 @@ use Rattle.gregorian.specs.Dates.{good_date}
 use Rattle.day_time.specs.Answers.{seconds_on}
 use Rattle.day_time.proofs.Days.{some_day}
 use Rattle.year_walk.proofs.seconds_of.Goals as goal
-use Rattle.year_walk.proofs.seconds_of.Goals.{After-is_date}
-
-tested : (c : After-is_date) → let v = c.args.time in c.is_date.result ≡ good_date v.year v.month v.day
-tested c =
-    let y : SFits w64 c.args.time.year = search rules in
-    rw (to_z-of_z y) at c.is_date.ensures
 
 pub returns-then-is_date : goal.returns-then-is_date
 returns-then-is_date c =
-    let t = d in
-    let v = t.args.time in
+    let v = c.args.time in
     let y : SFits w64 v.year = search rules in
-    let n = to_z-of_z {w = w32} (record { sfits = d.day_of-number.type_inv }) ∙ (rw (to_z-of_z y) at d.day_of-number.ensures) in
-    let g : good_date v.year v.month v.day ≡ true = sym (tested t) ∙ d.if-is_date.true in
+    let n = to_z-of_z {w = w32} (record { sfits = c.day_of-number.type_inv }) ∙ (rw (to_z-of_z y) at c.day_of-number.ensures) in
+    let tested : c.is_date.result ≡ good_date v.year v.month v.day = rw (to_z-of_z y) at c.is_date.ensures in
+    let g : good_date v.year v.month v.day ≡ true = sym tested ∙ c.if-is_date.true in
     c.seconds_on.ensures ∙ ap (λ z. seconds_on z v.hour v.minute v.second) n ∙ sym (some_day v {z = day_number v.year v.month v.day} (rw g))

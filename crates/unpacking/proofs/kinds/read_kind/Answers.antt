@@ -7,56 +7,56 @@ use Rattle.unpacking.proofs.kinds.read_kind.Goals as goal
 
 pub returns-in-FatDos : goal.returns-in-FatDos
 unfolding ordered
-returns-in-FatDos c = rw c.enum_told.given.1 c.read_bits.ensures
+returns-in-FatDos c = rw c.in-FatDos.is c.read_bits.ensures
 
 pub returns-in-ExFat : goal.returns-in-ExFat
 unfolding ordered
-returns-in-ExFat c = rw c.enum_told-in-ExFat-1.given.1 c.read_bits-in-ExFat.ensures
+returns-in-ExFat c = rw c.in-ExFat.is c.read_bits-in-ExFat.ensures
 
 pub returns-in-Dttm : goal.returns-in-Dttm
 unfolding ordered
-returns-in-Dttm c = rw c.enum_told-in-Dttm-1.given.1 c.read_bits-in-Dttm.ensures
+returns-in-Dttm c = rw c.in-Dttm.is c.read_bits-in-Dttm.ensures
 
 pub returns-in-BitDate : goal.returns-in-BitDate
 unfolding ordered
-returns-in-BitDate c = rw c.enum_told-in-BitDate-1.given.1 (c.read_bits-in-BitDate.ensures ∙ ap (in_range bit_date) c.reverse.ensures)
+returns-in-BitDate c = rw c.in-BitDate.is (c.read_bits-in-BitDate.ensures ∙ ap (in_range bit_date) c.reverse.ensures)
 
 pub returns-in-BitDec : goal.returns-in-BitDec
 unfolding ordered
-returns-in-BitDec c = rw c.enum_told-in-BitDec-1.given.1 c.read_bits-in-BitDec.ensures
+returns-in-BitDec c = rw c.in-BitDec.is c.read_bits-in-BitDec.ensures
 
 pub returns-in-Bcd : goal.returns-in-Bcd
 unfolding ordered
-returns-in-Bcd c = rw c.enum_told-in-Bcd-1.given.1 c.read_pairs.ensures
+returns-in-Bcd c = rw c.in-Bcd.is c.read_pairs.ensures
 
 pub returns-in-Moto : goal.returns-in-Moto
 unfolding ordered
-returns-in-Moto c = rw c.enum_told-in-Moto-1.given.1 c.read_bits-in-Moto.ensures
+returns-in-Moto c = rw c.in-Moto.is c.read_bits-in-Moto.ensures
 
 pub returns-in-Symantec : goal.returns-in-Symantec
 unfolding ordered
-returns-in-Symantec c = rw c.enum_told-in-Symantec-1.given.1 c.read_bits-in-Symantec.ensures
+returns-in-Symantec c = rw c.in-Symantec.is c.read_bits-in-Symantec.ensures
 
 pub returns-in-Dvr : goal.returns-in-Dvr
 unfolding ordered
-returns-in-Dvr c = rw c.enum_told-in-Dvr-1.given.1 c.read_bits-in-Dvr.ensures
+returns-in-Dvr c = rw c.in-Dvr.is c.read_bits-in-Dvr.ensures
 
 pub returns-in-Ns40 : goal.returns-in-Ns40
 unfolding ordered
-returns-in-Ns40 c = rw c.enum_told-in-Ns40-1.given.1 c.read_bits-in-Ns40.ensures
+returns-in-Ns40 c = rw c.in-Ns40.is c.read_bits-in-Ns40.ensures
 
 pub returns-in-Ns40Le : goal.returns-in-Ns40Le
 unfolding ordered
-returns-in-Ns40Le c = rw c.enum_told-in-Ns40Le-1.given.1 (c.read_bits-in-Ns40Le.ensures ∙ ap (in_range ns40_le) c.swap_year.ensures)
+returns-in-Ns40Le c = rw c.in-Ns40Le.is (c.read_bits-in-Ns40Le.ensures ∙ ap (in_range ns40_le) c.swap_year.ensures)
 
 pub returns-in-LogTime : goal.returns-in-LogTime
 unfolding ordered
-returns-in-LogTime c = rw c.enum_told-in-LogTime-1.given.1 c.read_bits-in-LogTime.ensures
+returns-in-LogTime c = rw c.in-LogTime.is c.read_bits-in-LogTime.ensures
 
 pub returns-in-SemiOctet : goal.returns-in-SemiOctet
 unfolding ordered
-returns-in-SemiOctet c = rw c.enum_told-in-SemiOctet-1.given.1 c.read_pairs-in-SemiOctet.ensures
+returns-in-SemiOctet c = rw c.in-SemiOctet.is c.read_pairs-in-SemiOctet.ensures
 
 pub returns-in-Gsm : goal.returns-in-Gsm
 unfolding ordered
-returns-in-Gsm c = rw c.enum_told-in-Gsm-1.given.1 c.read_semi_octets.ensures
+returns-in-Gsm c = rw c.in-Gsm.is c.read_semi_octets.ensures

@@ -12,5 +12,5 @@ returns c =
     let s = c in
     let y = c.pair_at-year in
     rw (to_z_pos w64 {n = y.result} (omega (arith, y.ensures.1)))
-    (sym (fields_are s.args.l s.args.p (pairs s.args.swapped) _ _ _ _ _ _ s.requires.1 y.ensures.0 c.pair_at.ensures.0 c.pair_at-2.ensures.0
+    (sym (fields_are s.args.l s.args.p (pairs s.args.swapped) _ _ _ _ _ _ s.requires.digits y.ensures.0 c.pair_at.ensures.0 c.pair_at-2.ensures.0
     c.pair_at-3.ensures.0 c.pair_at-4.ensures.0 c.pair_at-5.ensures.0))

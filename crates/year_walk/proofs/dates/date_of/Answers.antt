@@ -4,12 +4,11 @@ use mathlib.Core.Path.{sym, ap, ◌∙◌, subst}
 use native.Mathlib.Omega.{arith}
 use mir.Syntax.{w64}
 use Rattle.signed.proofs.Differences.{minus}
-use Rattle.signed.proofs.Machine.{Lowers, lowers}
+use Rattle.signed.proofs.Machine.{lowers}
 use Rattle.month_lengths.specs.Lengths.{leap, days_of_months, year_days, year_at}
 use Rattle.gregorian.specs.Parts.{InMonth}
 use Rattle.gregorian.proofs.Days.{raises_day, days_most, date_at_lem, date_in_year_lem}
 use Rattle.year_walk.proofs.dates.date_of.Goals as goal
-use Rattle.year_walk.proofs.dates.date_of.Goals.{After-month_of-month, After-year_of-year}
 
 pub overflow_add-number : goal.overflow_add-number
 overflow_add-number c = (raises_day c.ranges.number c.requires).fits
@@ -24,18 +23,12 @@ pub month_of-month-requires : goal.month_of-month-requires
 unfolding year_days
 month_of-month-requires c = omega (arith, c.year_of-year.ensures.short, ap (λ b. days_of_months b 12) c.is_leap.ensures)
 
-year : (c : After-year_of-year) → Lowers w64 c.year_of-year.result.whole 10000
-year c = lowers w64 c.year_of-year.result.whole 10000 (omega (arith, c.year_of-year.ensures.year)) (omega arith)
-
-found : (c : After-month_of-month) → let y = c.year_of-year.result in InMonth (leap (year_at y.whole)) y.left c.month_of-month.result.whole c.month_of-month.result.left
-found c =
-    let y = c.year_of-year.result in
-    subst (λ b. InMonth b y.left c.month_of-month.result.whole c.month_of-month.result.left) c.is_leap.ensures c.month_of-month.ensures
-
 pub returns : goal.returns
 returns c =
-    let y = m in
-    let s = y in
-    let n = y.year_of-year.result.whole in
-    let d = date_at_lem s.args.number (rw (raises_day s.ranges.number s.requires).is at y.year_of-year.ensures) ∙ date_in_year_lem n (found m) in
-    rw ((year y).is ∙ sym (minus n 10000)) (sym d)
+    let y = c.year_of-year.result in
+    let n = y.whole in
+    let year = lowers w64 n 10000 (omega (arith, c.year_of-year.ensures.year)) (omega arith) in
+    let found : InMonth (leap (year_at n)) y.left c.month_of-month.result.whole c.month_of-month.result.left =
+      subst (λ b. InMonth b y.left c.month_of-month.result.whole c.month_of-month.result.left) c.is_leap.ensures c.month_of-month.ensures in
+    let d = date_at_lem c.args.number (rw (raises_day c.ranges.number c.requires).is at c.year_of-year.ensures) ∙ date_in_year_lem n found in
+    rw (year.is ∙ sym (minus n 10000)) (sym d)

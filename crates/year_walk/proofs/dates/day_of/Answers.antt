@@ -1,7 +1,6 @@
 -- `day_of` meets its contract: the days before the year, before the month and before the day are those that the definition
 -- sums. Assumes nothing.
 use mathlib.Core.Path.{◌≡◌, sym, ap, ◌∙◌}
-use mathlib.Core.Bool.{true}
 use Prim.Native.Nat.{◌+◌, ◌-◌, ◌<◌}
 use native.Mathlib.Omega.{arith}
 use lib.IntN.{sub_ℕ}
@@ -10,32 +9,25 @@ use mir.Facts.{to_z-of_z}
 use Rattle.signed.proofs.Machine.{Lowers, lowers}
 use Rattle.month_lengths.specs.Lengths.{days_of_months}
 use Rattle.gregorian.specs.Gregorian.{years_to, days_of_years, days_to, epoch_day}
-use Rattle.gregorian.specs.Dates.{good_year}
 use Rattle.gregorian.proofs.YearSums.{all_years}
 use Rattle.gregorian.proofs.Days.{leap_back, number}
 use Rattle.gregorian.proofs.Trip.{its_year, its_days_high}
 use Rattle.year_walk.proofs.dates.day_of.Goals as goal
-use Rattle.year_walk.proofs.dates.day_of.Goals.{After-days_before_month, After-years_to-years}
-
-good : (s : Start) → good_year s.args.year ≡ true
-good s = its_year s.args.year s.args.month s.args.day s.requires
-
-years : (c : After-years_to-years) → c.years_to-years.result ≡ years_to c.args.year
-years c = rw (to_z-of_z c.ranges.year) at c.years_to-years.ensures
+use Rattle.year_walk.proofs.dates.day_of.Goals.{After-days_before_month}
 
 -- the sum, in the calendar's words, and how large it can be
 total : (c : After-days_before_month) → let s = c.args in c.days_before_year.result + c.days_before_month.result + (s.day - 1) ≡ days_to s.year s.month s.day
 unfolding days_to
 total c =
-    let s = y in
-    let b = c.is_leap.ensures ∙ leap_back s.args.year (good s) (years y) in
+    let d = c.args in
+    let years : c.years_to-years.result ≡ years_to d.year = rw (to_z-of_z c.ranges.year) at c.years_to-years.ensures in
+    let b = c.is_leap.ensures ∙ leap_back d.year (its_year d.year d.month d.day c.requires) years in
     omega
-    (arith, c.days_before_year.ensures ∙ ap days_of_years (years y), c.days_before_month.ensures ∙ ap (λ r. days_of_months r (s.args.month - 1)) b)
+    (arith, c.days_before_year.ensures ∙ ap days_of_years years, c.days_before_month.ensures ∙ ap (λ r. days_of_months r (d.month - 1)) b)
 
 small : (c : After-days_before_month) → let s = c.args in c.days_before_year.result + c.days_before_month.result + (s.day - 1) < 7304850
 small c =
-    let s = c in
-    omega (arith, total c, its_days_high s.args.year s.args.month s.args.day s.requires, all_years)
+    omega (arith, total c, its_days_high c.args.year c.args.month c.args.day c.requires, all_years)
 
 pub overflow_add-start : goal.overflow_add-start
 overflow_add-start c = omega (arith, small (goal.at.overflow_add-start c).After-days_before_month)
@@ -50,7 +42,7 @@ difference : (c : After-days_before_month) → let s = c.args in Lowers w32 (c.d
 difference c = lowers w32 _ epoch_day (omega (arith, small c)) (omega arith)
 
 pub overflow_sub-result-2 : goal.overflow_sub-result-2
-overflow_sub-result-2 c = (difference (goal.at.overflow_sub-result-2 c).After-days_before_month).ranges
+overflow_sub-result-2 c = (difference (goal.at.overflow_sub-result-2 c).After-days_before_month).fits
 
 pub returns : goal.returns
 returns c =

@@ -1,5 +1,5 @@
 -- `days_before_month` meets its contract. The loop's invariant: `days` is the sum of the first k months. Assumes nothing.
-use Prim.Native.Nat.{◌+◌, ◌-◌}
+use Prim.Native.Nat.{◌+◌}
 use native.Mathlib.Omega.{arith}
 use Rattle.gregorian.proofs.MonthSums.{no_months, months_step, months_most}
 use Rattle.year_walk.proofs.months.days_before_month.Goals as goal

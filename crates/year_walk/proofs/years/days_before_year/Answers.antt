@@ -1,5 +1,5 @@
 -- `days_before_year` meets its contract. The loop's invariant: `days` is the sum of the first k years. Assumes nothing.
-use Prim.Native.Nat.{◌+◌, ◌-◌}
+use Prim.Native.Nat.{◌+◌}
 use native.Mathlib.Omega.{arith}
 use Rattle.gregorian.proofs.YearSums.{no_years, years_step, years_high}
 use Rattle.year_walk.proofs.years.days_before_year.Goals as goal

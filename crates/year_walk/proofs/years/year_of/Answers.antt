@@ -1,5 +1,4 @@
 -- `year_of` meets its contract. The loop's invariant: the years passed and what is left make up the day. Assumes nothing.
-use Prim.Native.Nat.{◌-◌}
 use native.Mathlib.Omega.{arith}
 use Rattle.gregorian.proofs.YearSums.{no_years, years_step, fewer_years}
 use Rattle.year_walk.proofs.years.year_of.Goals as goal
@@ -10,9 +9,8 @@ loop-left-init c = omega (arith, no_years)
 pub returns-then-left-length : goal.returns-then-left-length
 returns-then-left-length c =
     let l = c.loop-left in
-    let s = c in
     record {
-      year = fewer_years l.whole s.args.day (omega (arith, l.invariant)) s.requires;
+      year = fewer_years l.whole c.args.day (omega (arith, l.invariant)) c.requires;
       is = l.invariant;
       short = omega (arith, c.if-left-length.true, c.year_days-length.ensures);
     }
@@ -20,14 +18,12 @@ returns-then-left-length c =
 pub overflow_add-whole : goal.overflow_add-whole
 overflow_add-whole c =
     let l = c.loop-left in
-    let s = c in
-    omega (arith, fewer_years l.whole s.args.day (omega (arith, l.invariant)) s.requires)
+    omega (arith, fewer_years l.whole c.args.day (omega (arith, l.invariant)) c.requires)
 
 pub loop-left-smaller : goal.loop-left-smaller
 loop-left-smaller c =
     let l = c.loop-left in
-    let s = c in
-    omega (arith, fewer_years l.whole s.args.day (omega (arith, l.invariant)) s.requires)
+    omega (arith, fewer_years l.whole c.args.day (omega (arith, l.invariant)) c.requires)
 
 pub loop-left-preserved : goal.loop-left-preserved
 loop-left-preserved c = omega (arith, years_step c.loop-left.whole)
