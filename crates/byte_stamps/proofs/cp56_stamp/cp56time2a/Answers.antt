@@ -21,20 +21,17 @@ returns-then-stamp-ne7 c =
 pub returns-in_default : goal.returns-in_default
 unfolding cp56
 returns-in_default c =
-    let f = k in
-    let b = f.args.stamp.now in
-    let e = f.cp56_seconds-found.ensures in
+    let b = c.args.stamp.now in
+    let e = c.cp56_seconds-found.ensures in
     let n = word_at b 0 % 1000 * 1000000 in
-    handed_on (at_nanos n) (λ n. refl) (sym e ∙ ap read_seconds k.enum_told.given.1) (c.refusal.ensures ∙ ap refusal_in e)
-    ∙ sym (right_length 7 b (at_nanos n (seconds_for (cp56_fields b))) f.if-stamp-ne7.false)
+    handed_on (at_nanos n) (λ n. refl) (sym e ∙ ap read_seconds c.enum_told.given.1) (c.refusal.ensures ∙ ap refusal_in e)
+    ∙ sym (right_length 7 b (at_nanos n (seconds_for (cp56_fields b))) c.if-stamp-ne7.false)
 
 pub returns : goal.returns
 unfolding cp56
 returns c =
-    let k = w in
-    let f = k in
-    let b = f.args.stamp.now in
-    let e = sym (ap read_seconds k.found.given.1) ∙ f.cp56_seconds-found.ensures in
-    let z = to_z-of_z {w = w64} {z = k.found.given.0.0} (record { sfits = w.known-told.given.0.1 }) in
-    ap gives (rw (z, w.word_of.ensures.0) at c.new.ensures) ∙ ap (at_nanos (word_at b 0 % 1000 * 1000000)) e
-    ∙ sym (right_length 7 b (at_nanos (word_at b 0 % 1000 * 1000000) (seconds_for (cp56_fields b))) f.if-stamp-ne7.false)
+    let b = c.args.stamp.now in
+    let e = sym (ap read_seconds c.found.given.1) ∙ c.cp56_seconds-found.ensures in
+    let z = to_z-of_z {c = w64} {z = c.found.given.0.0} (record { sfits = c.known-told.given.0.1 }) in
+    ap gives (rw (z, c.word_of.ensures.0) at c.new.ensures) ∙ ap (at_nanos (word_at b 0 % 1000 * 1000000)) e
+    ∙ sym (right_length 7 b (at_nanos (word_at b 0 % 1000 * 1000000) (seconds_for (cp56_fields b))) c.if-stamp-ne7.false)

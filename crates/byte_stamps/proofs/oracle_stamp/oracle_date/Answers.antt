@@ -19,17 +19,15 @@ returns-then-stamp-ne7 c =
 pub returns-in_default : goal.returns-in_default
 unfolding oracle_date
 returns-in_default c =
-    let f = k in
-    let b = f.args.stamp.now in
-    let e = f.oracle_seconds-found.ensures in
-    handed_on (at_nanos 0) (λ n. refl) (sym e ∙ ap read_seconds k.enum_told.given.1) (c.refusal.ensures ∙ ap refusal_in e)
-    ∙ sym (right_length 7 b (at_nanos 0 (seconds_for (oracle_fields b))) f.if-stamp-ne7.false)
+    let b = c.args.stamp.now in
+    let e = c.oracle_seconds-found.ensures in
+    handed_on (at_nanos 0) (λ n. refl) (sym e ∙ ap read_seconds c.enum_told.given.1) (c.refusal.ensures ∙ ap refusal_in e)
+    ∙ sym (right_length 7 b (at_nanos 0 (seconds_for (oracle_fields b))) c.if-stamp-ne7.false)
 
 pub returns : goal.returns
 unfolding oracle_date
 returns c =
-    let f = k in
-    let b = f.args.stamp.now in
-    let e = sym (ap read_seconds k.found.given.1) ∙ f.oracle_seconds-found.ensures in
-    let z = to_z-of_z {w = w64} {z = k.found.given.0.0} (record { sfits = c.known-told.given.0.1 }) in
-    ap gives (rw z at c.at_second.ensures) ∙ ap (at_nanos 0) e ∙ sym (right_length 7 b (at_nanos 0 (seconds_for (oracle_fields b))) f.if-stamp-ne7.false)
+    let b = c.args.stamp.now in
+    let e = sym (ap read_seconds c.found.given.1) ∙ c.oracle_seconds-found.ensures in
+    let z = to_z-of_z {w = w64} {z = c.found.given.0.0} (record { sfits = c.known-told.given.0.1 }) in
+    ap gives (rw z at c.at_second.ensures) ∙ ap (at_nanos 0) e ∙ sym (right_length 7 b (at_nanos 0 (seconds_for (oracle_fields b))) c.if-stamp-ne7.false)

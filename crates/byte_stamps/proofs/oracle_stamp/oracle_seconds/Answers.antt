@@ -18,28 +18,22 @@ overflow_cast-years c = search rules
 
 -- the year's digits, as the machine reads them back
 years : (c : After-byte_of-2) → let n = c.byte_of.result * 100 + c.byte_of-2.result in to_z w64 n ≡ pos n
-years c = to_z_pos w64 (cast-seconds-at c).sfits
+years c = to_z_pos w64 (overflow_cast-years c).sfits
 
 fit : (c : After-byte_of-2) → SFits w64 (pos (c.byte_of.result * 100 + c.byte_of-2.result) -ℤ pos 10100)
 fit c = less_fits (pos (c.byte_of.result * 100 + c.byte_of-2.result)) 10100 (omega arith)
 
 pub returns : goal.returns
 returns c =
-    let b5 = b6 in
-    let b4 = b5 in
-    let b3 = b4 in
-    let b2 = b3 in
-    let b1 = b2 in
-    let b0 = b1 in
-    let e0 = b0.byte_of.ensures.0 in
-    let e1 = b1.byte_of-2.ensures.0 in
-    let e2 = b2.byte_of-3.ensures.0 in
-    let e3 = b3.byte_of-4.ensures.0 in
-    let e4 = b4.byte_of-5.ensures.0 in
-    let e5 = b5.byte_of-6.ensures.0 in
-    let e6 = b6.byte_of-7.ensures.0 in
+    let e0 = c.byte_of.ensures.0 in
+    let e1 = c.byte_of-2.ensures.0 in
+    let e2 = c.byte_of-3.ensures.0 in
+    let e3 = c.byte_of-4.ensures.0 in
+    let e4 = c.byte_of-5.ensures.0 in
+    let e5 = c.byte_of-6.ensures.0 in
+    let e6 = c.byte_of-7.ensures.0 in
     let year =
-    ap (λ z. to_z w64 (of_z w64 (z -ℤ pos 10100))) (years b1) ∙ to_z-of_z (fit b1) ∙ oracle_year b0.byte_of.result b1.byte_of-2.result
+    ap (λ z. to_z w64 (of_z w64 (z -ℤ pos 10100))) (years (goal.at.returns c).After-byte_of-2) ∙ to_z-of_z (fit (goal.at.returns c).After-byte_of-2) ∙ oracle_year c.byte_of.result c.byte_of-2.result
     ∙ (λ i. (pos (e0 i) -ℤ pos 100) *ℤ pos 100 +ℤ (pos (e1 i) -ℤ pos 100))
     in
     c.seconds_at.ensures

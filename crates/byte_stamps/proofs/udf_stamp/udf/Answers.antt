@@ -31,31 +31,29 @@ returns-then-stamp-ne12 c =
 pub returns-in_default : goal.returns-in_default
 unfolding udf_stamp
 returns-in_default c =
-    let f = k in
-    let b = f.args.stamp.now in
-    let e = f.udf_seconds-found.ensures in
+    let b = c.args.stamp.now in
+    let e = c.udf_seconds-found.ensures in
     let y : Answer ℤ → Answer Instant = λ a. at_nanos (udf_parts b % 1000000000) (moved (udf_parts b / 1000000000) (udf_minutes (word_at b 0) *ℤ pos 60) a) in
-    handed_on y (λ n. refl) (sym e ∙ ap read_seconds k.enum_told.given.1) (c.refusal.ensures ∙ ap refusal_in e)
-    ∙ sym (right_length 12 b (y (seconds_for (udf_fields b))) f.if-stamp-ne12.false)
+    handed_on y (λ n. refl) (sym e ∙ ap read_seconds c.enum_told.given.1) (c.refusal.ensures ∙ ap refusal_in e)
+    ∙ sym (right_length 12 b (y (seconds_for (udf_fields b))) c.if-stamp-ne12.false)
 
 -- the minutes, the civil time's second and what is carried, as the machine reads them back
 minutes : (c : After-udf_minutes-zone) → to_z w64 (of_z w64 c.udf_minutes-zone.result) ≡ c.udf_minutes-zone.result
 minutes c = to_z-of_z {w = w64} (record { sfits = c.udf_minutes-zone.type_inv })
 
-second : (c : After-udf_minutes-zone) → let k = c in to_z w64 (of_z w64 k.found.given.0.0) ≡ k.found.given.0.0
+second : (c : After-udf_minutes-zone) → to_z w64 (of_z w64 c.found.given.0.0) ≡ c.found.given.0.0
 second c = to_z-of_z {w = w64} {z = c.found.given.0.0} (record { sfits = c.known-told.given.0.1 })
 
-said : (c : After-udf_minutes-zone) → let k = c in gives k.found.given.0.0 ≡ seconds_for (udf_fields k.args.stamp.now)
-said c = let k = c in sym (ap read_seconds k.found.given.1) ∙ k.udf_seconds-found.ensures
+said : (c : After-udf_minutes-zone) → gives c.found.given.0.0 ≡ seconds_for (udf_fields c.args.stamp.now)
+said c = sym (ap read_seconds c.found.given.1) ∙ c.udf_seconds-found.ensures
 
 -- and all that is added fits
 fits : (c : After-udf_minutes-zone) → let s = c.found.given.0.0 in let q = c.udf_parts-parts.result / 1000000000 in SFits w64 (c.udf_minutes-zone.result *ℤ pos 60) × SFits w64 (s +ℤ pos q) × SFits w64 (s +ℤ pos q -ℤ c.udf_minutes-zone.result *ℤ pos 60)
 fits c =
-    let k = c in
-    let s = k.found.given.0.0 in
+    let s = c.found.given.0.0 in
     let m = c.udf_minutes-zone.result in
     let q = c.udf_parts-parts.result / 1000000000 in
-    let hs = small_seconds (udf_fields k.args.stamp.now) (said c) in
+    let hs = small_seconds (udf_fields c.args.stamp.now) (said c) in
     let hm = c.udf_minutes-zone.ensures.1 in
     let hq : q < 3 = omega (arith, c.udf_parts-parts.ensures.1) in
     (zone_fits s m q hs hm hq, carry_fits s m q hs hm hq, moved_fits s m q hs hm hq)
@@ -64,7 +62,7 @@ pub overflow_cast-seconds : goal.overflow_cast-seconds
 overflow_cast-seconds c = search rules
 
 carry : (c : After-udf_minutes-zone) → let q = c.udf_parts-parts.result / 1000000000 in to_z w64 q ≡ pos q
-carry c = to_z_pos w64 (cast-seconds c).sfits
+carry c = to_z_pos w64 (overflow_cast-seconds c).sfits
 
 pub overflow_sub-seconds : goal.overflow_sub-seconds
 overflow_sub-seconds c = let f = fits (goal.at.overflow_sub-seconds c).After-udf_minutes-zone in rw (second (goal.at.overflow_sub-seconds c).After-udf_minutes-zone, carry (goal.at.overflow_sub-seconds c).After-udf_minutes-zone, to_z-of_z f.1, minutes (goal.at.overflow_sub-seconds c).After-udf_minutes-zone, to_z-of_z f.0) f.2
@@ -72,14 +70,12 @@ overflow_sub-seconds c = let f = fits (goal.at.overflow_sub-seconds c).After-udf
 pub returns : goal.returns
 unfolding udf_stamp
 returns c =
-    let p = m in
-    let s = p in
-    let b = s.args.stamp.now in
-    let f = fits m in
-    let ep = p.udf_parts-parts.ensures.0 in
-    let em = m.udf_minutes-zone.ensures.0 ∙ ap udf_minutes m.word_of.ensures.0 in
-    let local = p.found.given.0.0 in
+    let b = c.args.stamp.now in
+    let f = fits (goal.at.returns c).After-udf_minutes-zone in
+    let ep = c.udf_parts-parts.ensures.0 in
+    let em = c.udf_minutes-zone.ensures.0 ∙ ap udf_minutes c.word_of.ensures.0 in
+    let local = c.found.given.0.0 in
     let y : Answer ℤ → Answer Instant = λ a. at_nanos (udf_parts b % 1000000000) (moved (udf_parts b / 1000000000) (udf_minutes (word_at b 0) *ℤ pos 60) a) in
-    ap gives (rw (second m, carry m, to_z-of_z f.1, minutes m, to_z-of_z f.0, to_z-of_z f.2) at c.new.ensures)
+    ap gives (rw (second (goal.at.returns c).After-udf_minutes-zone, carry (goal.at.returns c).After-udf_minutes-zone, to_z-of_z f.1, minutes (goal.at.returns c).After-udf_minutes-zone, to_z-of_z f.0, to_z-of_z f.2) at c.new.ensures)
     ∙ (λ i. gives (at (local +ℤ pos (ep i / 1000000000) -ℤ em i *ℤ pos 60) (ep i % 1000000000)))
-    ∙ ap y (said m) ∙ sym (right_length 12 b (y (seconds_for (udf_fields b))) s.if-stamp-ne12.false)
+    ∙ ap y (said (goal.at.returns c).After-udf_minutes-zone) ∙ sym (right_length 12 b (y (seconds_for (udf_fields b))) c.if-stamp-ne12.false)

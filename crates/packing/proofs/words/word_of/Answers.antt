@@ -13,14 +13,11 @@ use Rattle.packing.proofs.Writable.{writable}
 use Rattle.packing.proofs.words.word_of.Goals as goal
 use Rattle.packing.proofs.words.word_of.Goals.{In-Gives}
 
--- what the calendar answered, and the civil time where it gave one
-answered : (c : In-Gives) → read_fields c.fields_of-found.result ≡ fields_for c.args.seconds
-answered c = rw (to_z-of_z c.ranges.seconds) at c.fields_of-found.ensures
+-- the civil time that the calendar gave
+given : (c : In-Gives) → gives c.in-Gives.c ≡ fields_for c.args.seconds
+given c = sym (ap read_fields c.in-Gives.is) ∙ (rw (to_z-of_z c.ranges.seconds) at c.fields_of-found.ensures)
 
-given : (c : In-Gives) → gives c.found.given.0.0 ≡ fields_for c.args.seconds
-given c = sym (ap read_fields c.found.given.1) ∙ answered c
-
-ranged : (c : In-Gives) → Ranged c.found.given.0.0
+ranged : (c : In-Gives) → Ranged c.in-Gives.c
 ranged c = ranged_fields c.args.seconds (given c)
 
 pub write_kind-requires : goal.write_kind-requires
@@ -34,4 +31,4 @@ word_in-requires c =
 pub returns : goal.returns
 returns c =
     let l = layout_for c.args.kind in
-    c.word_in.ensures ∙ ap as_word c.write_kind.ensures ∙ its_word l _ ∙ ap (write_fields l) (given c)
+    c.word_in.ensures ∙ ap as_word c.write_kind.ensures ∙ its_word l _ ∙ ap (write_fields l) (given (goal.at.returns c).In-Gives)

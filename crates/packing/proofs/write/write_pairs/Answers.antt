@@ -19,22 +19,25 @@ bits_are c =
     let y : SFits w64 c.args.c.year = search rules in
     rw (to_z-of_z y) at c.to_bits-y.ensures
 
-its-limits : (c : After-to_bits-y) → Writable c.pair_layout-l.result
-its-limits c = subst Writable (sym c.pair_layout-l.ensures) (pair_writable c.args.swapped)
+limits : (c : After-to_bits-y) → Writable c.pair_layout-l.result
+limits c = subst Writable (sym c.pair_layout-l.ensures) (pair_writable c.args.swapped)
 
-its-digits : (c : After-to_bits-y) → c.pair_layout-l.result.digits ≡ pairs c.args.swapped
-its-digits c =
+digits : (c : After-to_bits-y) → c.pair_layout-l.result.digits ≡ pairs c.args.swapped
+digits c =
     let b = c.args.swapped in
     subst (λ l. l.digits ≡ pairs b) (sym c.pair_layout-l.ensures) (pair_digits b)
 
 pub pack_pairs-requires : goal.pack_pairs-requires
 pack_pairs-requires c =
-    packing _ c.args.c (its-limits c) c.requires _ (bits_are c) (sym c.writes_year.ensures ∙ c.if-writes_year.true) (its-digits c)
+    let d = (goal.at.pack_pairs-requires c).After-to_bits-y in
+    packing _ c.args.c (limits d) c.requires _ (bits_are d) (sym c.writes_year.ensures ∙ c.if-writes_year.true) (digits d)
 
 pub returns-then-writes_year : goal.returns-then-writes_year
 returns-then-writes_year c =
-    written _ c.args.c (its-limits c) c.requires _ (bits_are c) (sym c.writes_year.ensures ∙ c.if-writes_year.true) _ c.pack_pairs.ensures ∙ ap (λ l. write_bits l c.args.c) c.pair_layout-l.ensures
+    let d = (goal.at.returns-then-writes_year c).After-to_bits-y in
+    written _ c.args.c (limits d) c.requires _ (bits_are d) (sym c.writes_year.ensures ∙ c.if-writes_year.true) _ c.pack_pairs.ensures ∙ ap (λ l. write_bits l c.args.c) c.pair_layout-l.ensures
 
 pub returns : goal.returns
 returns c =
-    unwritten _ c.args.c (its-limits c) c.requires _ (bits_are c) (sym c.writes_year.ensures ∙ c.if-writes_year.false) ∙ ap (λ l. write_bits l c.args.c) c.pair_layout-l.ensures
+    let d = (goal.at.returns c).After-to_bits-y in
+    unwritten _ c.args.c (limits d) c.requires _ (bits_are d) (sym c.writes_year.ensures ∙ c.if-writes_year.false) ∙ ap (λ l. write_bits l c.args.c) c.pair_layout-l.ensures

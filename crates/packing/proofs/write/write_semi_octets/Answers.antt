@@ -16,8 +16,8 @@ bits_are c =
 
 pub returns-then-writes_year : goal.returns-then-writes_year
 returns-then-writes_year c =
-    written c.args.l c.args.c c.requires.0.0 c.requires.0.1 _ (bits_are c) (sym c.writes_year.ensures ∙ c.if-writes_year.true) _ c.pack_semi_octets.ensures
+    written c.args.l c.args.c c.requires.writable.0 c.requires.writable.1 _ (bits_are (goal.at.returns-then-writes_year c).After-to_bits-y) (sym c.writes_year.ensures ∙ c.if-writes_year.true) _ c.pack_semi_octets.ensures
 
 pub returns : goal.returns
 returns c =
-    unwritten c.args.l c.args.c c.requires.0.0 c.requires.0.1 _ (bits_are c) (sym c.writes_year.ensures ∙ c.if-writes_year.false)
+    unwritten c.args.l c.args.c c.requires.writable.0 c.requires.writable.1 _ (bits_are (goal.at.returns c).After-to_bits-y) (sym c.writes_year.ensures ∙ c.if-writes_year.false)
