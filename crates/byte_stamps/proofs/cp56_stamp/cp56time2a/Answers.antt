@@ -1,4 +1,5 @@
 -- `cp56time2a` meets its contract: its length is tested, and the answer about its civil time taken apart. Assumes nothing.
+use borrow.Author.Rules.{rules}
 use mathlib.Core.Path.{refl, sym, ap, ◌∙◌}
 use mir.Syntax.{w64}
 use mir.Facts.{to_z-of_z}
@@ -24,14 +25,14 @@ returns-in_default c =
     let b = c.args.stamp.now in
     let e = c.cp56_seconds-found.ensures in
     let n = word_at b 0 % 1000 * 1000000 in
-    handed_on (at_nanos n) (λ n. refl) (sym e ∙ ap read_seconds c.enum_told.given.1) (c.refusal.ensures ∙ ap refusal_in e)
+    handed_on (at_nanos n) (λ n. refl) (sym e ∙ ap read_seconds c.in_default.is) (c.refusal.ensures ∙ ap refusal_in e)
     ∙ sym (right_length 7 b (at_nanos n (seconds_for (cp56_fields b))) c.if-stamp-ne7.false)
 
 pub returns : goal.returns
 unfolding cp56
 returns c =
     let b = c.args.stamp.now in
-    let e = sym (ap read_seconds c.found.given.1) ∙ c.cp56_seconds-found.ensures in
-    let z = to_z-of_z {c = w64} {z = c.found.given.0.0} (record { sfits = c.known-told.given.0.1 }) in
+    let e = sym (ap read_seconds c.in-Gives.is) ∙ c.cp56_seconds-found.ensures in
+    let z = to_z-of_z {w = w64} {z = c.in-Gives.seconds} (search rules) in
     ap gives (rw (z, c.word_of.ensures.0) at c.new.ensures) ∙ ap (at_nanos (word_at b 0 % 1000 * 1000000)) e
     ∙ sym (right_length 7 b (at_nanos (word_at b 0 % 1000 * 1000000) (seconds_for (cp56_fields b))) c.if-stamp-ne7.false)

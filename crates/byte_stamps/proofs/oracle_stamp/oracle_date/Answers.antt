@@ -1,4 +1,5 @@
 -- `oracle_date` meets its contract: its length is tested, and the answer about its civil time taken apart. Assumes nothing.
+use borrow.Author.Rules.{rules}
 use mathlib.Core.Path.{refl, sym, ap, ◌∙◌}
 use mir.Syntax.{w64}
 use mir.Facts.{to_z-of_z}
@@ -21,13 +22,13 @@ unfolding oracle_date
 returns-in_default c =
     let b = c.args.stamp.now in
     let e = c.oracle_seconds-found.ensures in
-    handed_on (at_nanos 0) (λ n. refl) (sym e ∙ ap read_seconds c.enum_told.given.1) (c.refusal.ensures ∙ ap refusal_in e)
+    handed_on (at_nanos 0) (λ n. refl) (sym e ∙ ap read_seconds c.in_default.is) (c.refusal.ensures ∙ ap refusal_in e)
     ∙ sym (right_length 7 b (at_nanos 0 (seconds_for (oracle_fields b))) c.if-stamp-ne7.false)
 
 pub returns : goal.returns
 unfolding oracle_date
 returns c =
     let b = c.args.stamp.now in
-    let e = sym (ap read_seconds c.found.given.1) ∙ c.oracle_seconds-found.ensures in
-    let z = to_z-of_z {w = w64} {z = c.found.given.0.0} (record { sfits = c.known-told.given.0.1 }) in
+    let e = sym (ap read_seconds c.in-Gives.is) ∙ c.oracle_seconds-found.ensures in
+    let z = to_z-of_z {w = w64} {z = c.in-Gives.seconds} (search rules) in
     ap gives (rw z at c.at_second.ensures) ∙ ap (at_nanos 0) e ∙ sym (right_length 7 b (at_nanos 0 (seconds_for (oracle_fields b))) c.if-stamp-ne7.false)
