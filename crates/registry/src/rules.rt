@@ -37,6 +37,7 @@ impl Picked {
 }
 
 // The rule of a layout number.
+#[tactic(auto, unfolding(crate::specs::Words::rule_for))]
 pub fn pick(layout: u32) -> Picked
     ensures { read_picked result ≡ rule_for layout }
 {
