@@ -18,4 +18,4 @@ unfolding asks_decode
 returns c =
     let layout = c.in-Is in
     let word = c.in-Is-word in
-    simp (to_z-of_z {w = w64} {z = layout.layout_number} (search rules), to_z-of_z {w = w64} {z = word.word} (search rules), layout.is, word.is)
+    simp (to_z-of_z {w = w64} {z = layout.layout_number} (search rules), to_z-of_z {w = w64} {z = word.word_number} (search rules), layout.is, word.is)

@@ -25,8 +25,8 @@ returns c =
     let nanos = c.in-Is-nanos in
     simp (
       to_z-of_z {w = w64} {z = layout.layout_number} (search rules),
-      to_z-of_z {w = w64} {z = seconds.seconds} (search rules),
-      to_z-of_z {w = w64} {z = nanos.nanos} (search rules),
+      to_z-of_z {w = w64} {z = seconds.seconds_number} (search rules),
+      to_z-of_z {w = w64} {z = nanos.nanos_number} (search rules),
       layout.is,
       seconds.is,
       nanos.is,
