@@ -14,7 +14,7 @@ use lib.Seq.{drop-cons, take-suc, take_at, drop_at, drop-drop, length-take-le}
 use Rattle.line_input.specs.Held.{Kept, holds, line_in, kept}
 use Rattle.texts.specs.Buffer.{Written}
 use Rattle.texts.proofs.Putting.{pasted, fits}
-use Rattle.stream.specs.Stream.{After, after_byte, then, after_bytes, taken, Feeds}
+use Rattle.stream.specs.Stream.{After, after_byte, text_then, after_bytes, taken, Feeds}
 use Rattle.lines.proofs.Texts.{Puts, length_line}
 
 -- a byte's text is at most a line's
@@ -29,14 +29,14 @@ length_after h b =
     either (eqb b 10) _ (holds h.bytes 0) (kept h b) (length_line (line_in h))
 
 -- input in two parts is the same as the whole
-pub in_parts : (h : Kept) (xs ys : List ℕ) → after_bytes h (xs ++ ys) ≡ then (after_bytes h xs).text (after_bytes (after_bytes h xs).held ys)
+pub in_parts : (h : Kept) (xs ys : List ℕ) → after_bytes h (xs ++ ys) ≡ text_then (after_bytes h xs).text (after_bytes (after_bytes h xs).held ys)
 unfolding after_bytes
 in_parts h [] ys = refl
 in_parts h (b ∷ bs) ys = rw (in_parts (after_byte h b).held bs ys, append_assoc)
 
 -- one byte more
 one_more : (h : Kept) (block : List ℕ) (i : ℕ) → i < length block
-    → after_bytes h (take (i + 1) block) ≡ then (after_bytes h (take i block)).text (after_byte (after_bytes h (take i block)).held (get_or block i 0))
+    → after_bytes h (take (i + 1) block) ≡ text_then (after_bytes h (take i block)).text (after_byte (after_bytes h (take i block)).held (get_or block i 0))
 unfolding after_bytes
 one_more h block i g = rw (add-one i, take-suc block i 0 g, in_parts h (take i block) (get_or block i 0 ∷ []), append-nil)
 

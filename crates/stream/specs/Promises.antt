@@ -2,7 +2,7 @@
 use Rattle.std.specs.Prelude.{ℕ, ◌≤◌, ◌<◌, ◌≡◌, if◌then◌else◌, List, [], ◌∷◌, ◌++◌, ◌==◌, length}
 use Rattle.line_input.specs.Held.{Kept, holds}
 use Rattle.lines.specs.Answers.{line_text}
-use Rattle.stream.specs.Stream.{After, then, after_bytes, taken, Feeds, last_text}
+use Rattle.stream.specs.Stream.{After, text_then, after_bytes, taken, Feeds, last_text}
 use Rattle.stream.specs.declared.Fed.{Fed}
 
 -- ---- the whole input
@@ -27,7 +27,7 @@ output_of input = answers_to (lines_behind [] input)
 -- blocks, one after the other
 unfoldable pub in_blocks : Kept → List (List ℕ) → After
 in_blocks h [] = record { text = []; held = h }
-in_blocks h (block ∷ blocks) = then (after_bytes h block).text (in_blocks (after_bytes h block).held blocks)
+in_blocks h (block ∷ blocks) = text_then (after_bytes h block).text (in_blocks (after_bytes h block).held blocks)
 
 -- their bytes as one input
 unfoldable pub joined : List (List ℕ) → List ℕ

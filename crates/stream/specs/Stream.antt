@@ -16,13 +16,13 @@ after_byte h b =
     else record { text = []; held = kept h b }
 
 -- text, and then what follows it
-abbrev pub then : List ℕ → After → After
-then text a = record { text = text ++ a.text; held = a.held }
+abbrev pub text_then : List ℕ → After → After
+text_then text a = record { text = text ++ a.text; held = a.held }
 
 -- the bytes of a block, one after the other
 unfoldable pub after_bytes : Kept → List ℕ → After
 after_bytes h [] = record { text = []; held = h }
-after_bytes h (b ∷ bs) = then (after_byte h b).text (after_bytes (after_byte h b).held bs)
+after_bytes h (b ∷ bs) = text_then (after_byte h b).text (after_bytes (after_byte h b).held bs)
 
 -- how many bytes of a block are taken at once: each before which room is left for any answer, 48 bytes
 unfoldable pub taken : Kept → List ℕ → ℕ → ℕ

@@ -36,7 +36,7 @@ returns-in_default c =
 
 -- what the calendar answered about the fields
 answered : (k : Kind) (bits : ℕ) (read : Fields) (found : Seconds) (civil : Civil) → read_fields read ≡ read_by (layout_for k) bits → read ≡ fields.Gives civil → read_seconds found ≡ seconds_for civil
-      → read_seconds found ≡ seconds_in (read_by (layout_for k) bits)
+    → read_seconds found ≡ seconds_in (read_by (layout_for k) bits)
 answered k bits read found civil r e f = f ∙ ap seconds_in (sym (ap read_fields e) ∙ r)
 
 pub returns-in_default-found : goal.returns-in_default-found

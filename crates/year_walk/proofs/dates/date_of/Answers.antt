@@ -29,6 +29,6 @@ returns c =
     let n = y.whole in
     let year = lowers w64 n 10000 (omega (arith, c.year_of-year.ensures.year)) (omega arith) in
     let found : InMonth (leap (year_at n)) y.left c.month_of-month.result.whole c.month_of-month.result.left =
-      subst (λ b. InMonth b y.left c.month_of-month.result.whole c.month_of-month.result.left) c.is_leap.ensures c.month_of-month.ensures in
+    subst (λ b. InMonth b y.left c.month_of-month.result.whole c.month_of-month.result.left) c.is_leap.ensures c.month_of-month.ensures in
     let d = date_at_lem c.args.number (rw (raises_day c.ranges.number c.requires).is at c.year_of-year.ensures) ∙ date_in_year_lem n found in
     rw (year.is ∙ sym (minus n 10000)) (sym d)
