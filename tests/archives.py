@@ -23,7 +23,7 @@ class Copy:
         self.user = folder / "user"
         self.tools = folder / "bin"
         shutil.copytree(ROOT / "rust", self.root / "rust", ignore=shutil.ignore_patterns("target"))
-        shutil.copytree(ROOT / "crates", self.root / "crates")
+        shutil.copytree(ROOT / "crates", self.root / "crates", ignore=shutil.ignore_patterns("out"))
         for file in ("crates.txt", "KIT", "tools/archive"):
             (self.root / file).parent.mkdir(exist_ok=True)
             shutil.copy(ROOT / file, self.root / file)
@@ -58,12 +58,11 @@ class Copy:
         stand_in.write_text(
             "#!/bin/sh\n"
             f'echo "$(basename "$0") $*" >>"{self.called}"\n'
-            f'if [ "$1" = staticlib ] && [ -e "{self.meanwhile}" ]; then echo >>crates/sleetrick/src/lib.rt; fi\n'
+            f'if [ "$1" = lib ] && [ -e "{self.meanwhile}" ]; then echo >>src/lib.rt; fi\n'
             f'[ "$1" != rcs ] || cp "{ROOT}/target/staticlib/{ARCHIVE}" "$2"\n'
         )
         stand_in.chmod(0o755)
-        own = self.kit / "on" / os.uname().machine
-        for tool in (self.tools / "rt", own / "bin/rattle", own / "toolchain/bin/clang", own / "toolchain/bin/llvm-ar"):
+        for tool in (self.tools / "rt", self.kit / "toolchain/bin/llvm-ar"):
             tool.parent.mkdir(parents=True, exist_ok=True)
             tool.symlink_to(stand_in)
 
@@ -77,7 +76,7 @@ class Copy:
         return run.stdout.strip() if run.returncode == 0 else "REFUSED " + run.stderr
 
     def built_anew(self):
-        return self.called.exists() and "staticlib sleetrick" in self.called.read_text()
+        return self.called.exists() and "rt lib" in self.called.read_text()
 
 
 def expect(name, holds, said=""):
