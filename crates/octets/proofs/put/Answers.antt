@@ -1,6 +1,5 @@
 -- `put` meets its contract: before each turn the bytes that are written stand in front of those that are to come. Assumes
 -- nothing.
-use Prim.Native.Nat.{◌-◌}
 use native.Mathlib.Omega.{arith}
 use lib.ListN.{length-set}
 use Rattle.octets.proofs.Parts.{one_more, no_more}

@@ -1,6 +1,5 @@
 -- `texts::buffer::put` meets its contract. The loop's invariant: the first k bytes of the text stand in the buffer from
 -- `at` on, and every other byte is as it was. Assumes nothing.
-use Prim.Native.Nat.{◌-◌}
 use mathlib.Core.Path.{◌≡◌, ◌∙◌}
 use native.Mathlib.Omega.{arith}
 use native.Mathlib.Numerals.{add-one}

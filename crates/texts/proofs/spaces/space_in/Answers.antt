@@ -1,6 +1,5 @@
 -- `texts::spaces::space_in` meets its contract. The loop's invariant: what stands before the first space is
 -- what was passed and what stands before it in what is left, and what stands after it is that of what is left. Assumes nothing.
-use Prim.Native.Nat.{◌-◌}
 use mathlib.Core.Path.{◌∙◌}
 use native.Mathlib.Omega.{arith}
 use Rattle.texts.proofs.FirstSpace.{before_more, before_here, before_end, after_more, after_here, after_end}
