@@ -42,8 +42,7 @@ fn pairs_in(text: &[u8], out: &mut [u8]) -> Hex {
     if out.len() < n {
         return Hex::Not;
     }
-    let mut i = 0;
-    while i < n {
+    for i in 0..n {
         let high = digit_of(text[2 * i]);
         let low = digit_of(text[2 * i + 1]);
         if 15 < high {
@@ -53,7 +52,6 @@ fn pairs_in(text: &[u8], out: &mut [u8]) -> Hex {
             return Hex::Not;
         }
         out[i] = high * 16 + low;
-        i += 1;
     }
     Hex::Bytes(n)
 }
