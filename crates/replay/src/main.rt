@@ -30,6 +30,10 @@ mod hex;
 mod numbers;
 mod questions;
 
+ghost use Rattle.std.specs.Prelude.{◌≡◌, ◌≢◌, OnOk, OnErr};
+ghost use Rattle.std.specs.IoError.{error_kind};
+ghost use Rattle.std.specs.Io.KnownBytes.{Appends};
+
 use crate::questions::answer;
 use line_input::{take_line, turns_left};
 use std::io;
@@ -78,15 +82,20 @@ fn say(rt: &impl Eprint, failure: Failure) {
 
 // Where a read has failed. One that a signal interrupted is made again. Any other ends the program, and a line that is held
 // gets no answer, since the rest of what it asks is missing.
-fn read_failed(held: usize, why: io::Error) -> Result<Place, Failure> {
+fn read_failed(held: usize, why: io::Error) -> Result<Place, Failure>
+    ensures again { OnOk result (error_kind why ≡ ErrorKind.Interrupted) }
+    ensures fails { OnErr result (error_kind why ≢ ErrorKind.Interrupted) }
+{
     if why.kind() == ErrorKind::Interrupted {
         return Ok(used_up(held));
     }
     Err(Failure::Input(why))
 }
 
-// Writes an answer.
-fn write_out(output: &mut impl Write, text: &[u8]) -> Result<(), Failure> {
+// Writes an answer, all of it where it is Ok.
+fn write_out<W: Write>(output: &mut W, text: &[u8]) -> Result<(), Failure>
+    ensures { OnOk result (Appends (W.contents output.old) (W.contents output.new) text.now) }
+{
     output.write_all(text).map_err(Failure::Output)
 }
 

@@ -14,6 +14,7 @@
 
 ghost use Rattle.std.specs.Prelude.{◌≡◌, ◌≢◌, ◌≤◌, ◌<◌, length, IfOk, OnOk, OnErr};
 ghost use Rattle.std.specs.IoError.{error_kind};
+ghost use Rattle.std.specs.Io.KnownBytes.{Appends};
 
 use std::io;
 use std::io::{ErrorKind, Read, Write};
@@ -48,8 +49,10 @@ fn say(rt: &impl Eprint, failure: Failure) {
     };
 }
 
-// Writes answers.
-fn write_out(output: &mut impl Write, text: &[u8]) -> Result<(), Failure> {
+// Writes answers, all of them where it is Ok.
+fn write_out<W: Write>(output: &mut W, text: &[u8]) -> Result<(), Failure>
+    ensures { OnOk result (Appends (W.contents output.old) (W.contents output.new) text.now) }
+{
     output.write_all(text).map_err(Failure::Output)
 }
 
