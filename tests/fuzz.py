@@ -1,7 +1,7 @@
 #!/usr/bin/env python3
 """fuzz.py [SEED]: feeds the line program what nobody would write, and holds each answer to tests/reference.py.
 
-The program is target/bin/stamps, by tools/run-program. Lines are good ones, damaged ones, random bytes, lines of every
+The program is crates/stamps/out/stamps, by tools/run-program. Lines are good ones, damaged ones, random bytes, lines of every
 length from 0 to 130 and numbers around the ends of machine numbers; input comes as a file, in blocks of any size, and in
 two blocks cut at every place. A reader of the answers is late once, and goes away once. The same seed gives the same bytes.
 The last line says what was run; the status is 0 where all was right.
@@ -212,7 +212,7 @@ def short_writes(data):
 
 
 def reader_gone(data, ignored):
-    """A reader that goes away ends the program, which says nothing, by the signal or, where that is ignored, by itself."""
+    """A reader that goes away ends the program, which says nothing, by the signal or, where that is ignored, with status 1."""
     with tempfile.TemporaryFile() as given, tempfile.TemporaryFile() as said:
         given.write(data)
         given.seek(0)
@@ -221,7 +221,7 @@ def reader_gone(data, ignored):
         program.stdout.close()
         status = program.wait(SECONDS)
         said.seek(0)
-        if status not in ((0,) if ignored else (0, -signal.SIGPIPE)) or said.read():
+        if status not in ((1,) if ignored else (1, -signal.SIGPIPE)) or said.read():
             raise SystemExit(f"fuzz: a reader that goes away: status {status}")
 
 

@@ -1,12 +1,13 @@
 #!/usr/bin/env python3
 """programs.py [PROGRAM]..: runs the programs where reading and writing go wrong, and where there is much of both.
 
-No proof says what a program reads and writes. The programs are those of target/bin, by tools/run-program: `stamps` and
-`replay`, which answer lines, and `try_loss`, which reads nothing. What fails they say on standard error, since the language has
-no exit status. The last line says what was run; the status is 0 where all was right.
+No proof says what a program reads and writes. The programs are crates/NAME/out/NAME, by tools/run-program: `stamps` and
+`replay`, which answer lines, and `try_loss`, which reads nothing. What fails they say on standard error, and end with status 1.
+The last line says what was run; the status is 0 where all was right.
 """
 
 import contextlib
+import errno
 import os
 import re
 import resource
@@ -52,15 +53,15 @@ def need(held, what, left=None):
         raise Wrong(what + end)
 
 
-def named(name, side, why):
+def named(name, side, error):
     """The line that names what failed."""
-    return f"{name}: {side}: {why}\n".encode()
+    return f"{name}: {side}: {os.strerror(error)} (os error {error})\n".encode()
 
 
-def needs_said(left, name, side, why):
-    """The line, and once: the program said it and ended. An emulator may say something of its own."""
-    need(left.said.count(named(name, side, why)) == 1, f"not said once: {side}: {why}", left)
-    need(left.status == 0, "it did not end by itself", left)
+def needs_said(left, name, side, error):
+    """The line, and once: the program said it and ended with status 1. An emulator may say something of its own."""
+    need(left.said.count(named(name, side, error)) == 1, f"not said once: {side}: {os.strerror(error)}", left)
+    need(left.status == 1, "it did not end with status 1", left)
 
 
 def needs_quiet(left, name):
@@ -123,7 +124,7 @@ def full_disk(name):
     data, _ = asked(name, 200_000)
     with holding(data) as given, opened("/dev/full", os.O_WRONLY) as full, tempfile.TemporaryFile() as said:
         left = finished(start(name, stdin=given, stdout=full, stderr=said), said)
-        needs_said(left, name, OUT, "No space left on device")
+        needs_said(left, name, OUT, errno.ENOSPC)
         # The position of the input is the program's too: it has not gone on reading.
         need(name not in GOOD or given.tell() < len(data), "it read to the end", left)
 
@@ -131,7 +132,7 @@ def full_disk(name):
 def full_at_last_line(name):
     """The same for the last line, which lacks its LF."""
     with holding(GOOD[name][0]) as given, opened("/dev/full", os.O_WRONLY) as full, tempfile.TemporaryFile() as said:
-        needs_said(finished(start(name, stdin=given, stdout=full, stderr=said), said), name, OUT, "No space left on device")
+        needs_said(finished(start(name, stdin=given, stdout=full, stderr=said), said), name, OUT, errno.ENOSPC)
 
 
 def full_later(name):
@@ -152,7 +153,7 @@ def full_later(name):
             left = finished(program, kept)
         wrote.seek(0)
         left.wrote = wrote.read()
-    needs_said(left, name, OUT, "File too large")
+    needs_said(left, name, OUT, errno.EFBIG)
     need(len(left.wrote) == room, "it did not write what there is room for", left)
     need(answers is None or answers.startswith(left.wrote), "what was written is not the start of the answers", left)
 
@@ -162,12 +163,12 @@ def no_output(name):
     data, _ = asked(name, 3)
     with holding(data) as given, tempfile.TemporaryFile() as said:
         program = start(name, stdin=given, stderr=said, preexec_fn=lambda: os.close(1))
-        needs_said(finished(program, said), name, OUT, "Bad file descriptor")
+        needs_said(finished(program, said), name, OUT, errno.EBADF)
 
 
 def reader_gone(name, ignored, read_first):
-    """A reader that goes away, or was gone before the first write, ends the program: by the signal, or by itself where that
-    is ignored, which is quiet."""
+    """A reader that goes away, or was gone before the first write, ends the program: by the signal, or with status 1 where
+    that is ignored, which is quiet."""
     data, _ = asked(name, 200_000)
     with holding(data) as given, tempfile.TemporaryFile() as said:
         read, write = os.pipe()
@@ -179,7 +180,7 @@ def reader_gone(name, ignored, read_first):
             need(os.read(read, 10), "nothing was written")
             os.close(read)
         left = finished(program, said)
-    need(left.status in ((0,) if ignored else (0, -signal.SIGPIPE)), "it did not end as it should", left)
+    need(left.status in ((1,) if ignored else (1, -signal.SIGPIPE)), "it did not end as it should", left)
     needs_quiet(left, name)
 
 
@@ -189,14 +190,14 @@ def directory(name):
     """A read fails: that is said, and nothing is answered."""
     with opened("/", os.O_RDONLY) as given:
         left = run(name, given)
-    needs_said(left, name, IN, "Is a directory")
+    needs_said(left, name, IN, errno.EISDIR)
     need(left.wrote == b"", "it answered", left)
 
 
 def no_input(name):
     """Standard input is closed."""
     left = run(name, None, preexec_fn=lambda: os.close(0))
-    needs_said(left, name, IN, "Bad file descriptor")
+    needs_said(left, name, IN, errno.EBADF)
     need(left.wrote == b"", "it answered", left)
 
 
@@ -208,7 +209,7 @@ def read_fails_later(name):
     with near, far:
         far.sendall((question + b"\n") * 3 + question[:-1])
         left = run(name, near)
-    needs_said(left, name, IN, "Resource temporarily unavailable")
+    needs_said(left, name, IN, errno.EAGAIN)
     need(left.wrote == (answer + b"\n") * 3, "not the answers to what was read whole", left)
 
 

@@ -2,7 +2,6 @@
 use crate::answers::{say_bad_line, say_decoded};
 use crate::hex::{Hex, bytes_in, room};
 use byte_stamps::{cp56time2a, oracle_date, udf};
-use check::same;
 use texts::first;
 
 fn answer_oracle(text: &[u8], out: &mut [u8]) -> usize {
@@ -34,14 +33,10 @@ fn answer_udf(text: &[u8], out: &mut [u8]) -> usize {
 
 // What stands behind a word of this topic, answered.
 pub fn answer(word: &[u8], text: &[u8], out: &mut [u8]) -> usize {
-    if same(word, b"oracle") {
-        return answer_oracle(text, out);
+    match word {
+        b"oracle" => answer_oracle(text, out),
+        b"cp56" => answer_cp56(text, out),
+        b"udf" => answer_udf(text, out),
+        _ => 0,
     }
-    if same(word, b"cp56") {
-        return answer_cp56(text, out);
-    }
-    if same(word, b"udf") {
-        return answer_udf(text, out);
-    }
-    0
 }

@@ -1,7 +1,6 @@
 // The calendar by both engines: `seconds` and `fields` ask `civil`, `walk-seconds` and `walk-fields` ask `year_walk`.
 use crate::answers::{say_bad_line, say_fields, say_seconds};
 use crate::numbers::{LARGEST, natural_in};
-use check::same;
 use day_time::Civil;
 use decimal::{Number, number_in};
 use texts::{after_space, before_space};
@@ -75,17 +74,11 @@ fn answer_walk_fields(text: &[u8], out: &mut [u8]) -> usize {
 
 // What stands behind a word of this topic, answered.
 pub fn answer(word: &[u8], text: &[u8], out: &mut [u8]) -> usize {
-    if same(word, b"seconds") {
-        return answer_seconds(text, out);
+    match word {
+        b"seconds" => answer_seconds(text, out),
+        b"walk-seconds" => answer_walk_seconds(text, out),
+        b"fields" => answer_fields(text, out),
+        b"walk-fields" => answer_walk_fields(text, out),
+        _ => 0,
     }
-    if same(word, b"walk-seconds") {
-        return answer_walk_seconds(text, out);
-    }
-    if same(word, b"fields") {
-        return answer_fields(text, out);
-    }
-    if same(word, b"walk-fields") {
-        return answer_walk_fields(text, out);
-    }
-    0
 }

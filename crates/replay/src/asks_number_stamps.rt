@@ -1,7 +1,6 @@
 // The composite stamps that come in two numbers. The second number is all that is left, so that another one spoils it.
 use crate::answers::{say_bad_line, say_decoded};
 use crate::numbers::{Signed, Unsigned, signed_in, unsigned_in};
-use check::same;
 use decimal::{Number, number_in};
 use number_stamps::{filetime_hilo, unix_sec_nsec, vmsd};
 use texts::{after_space, before_space};
@@ -47,14 +46,10 @@ fn answer_unix(text: &[u8], out: &mut [u8]) -> usize {
 
 // What stands behind a word of this topic, answered.
 pub fn answer(word: &[u8], text: &[u8], out: &mut [u8]) -> usize {
-    if same(word, b"filetime") {
-        return answer_filetime(text, out);
+    match word {
+        b"filetime" => answer_filetime(text, out),
+        b"vmsd" => answer_vmsd(text, out),
+        b"unix" => answer_unix(text, out),
+        _ => 0,
     }
-    if same(word, b"vmsd") {
-        return answer_vmsd(text, out);
-    }
-    if same(word, b"unix") {
-        return answer_unix(text, out);
-    }
-    0
 }

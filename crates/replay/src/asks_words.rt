@@ -1,7 +1,6 @@
 // The sixteen packed words, by the number of their layout.
 use crate::answers::{say_bad_line, say_decoded, say_encoded};
 use crate::numbers::narrow;
-use check::same;
 use decimal::{Number, number_in};
 use instant::Instant;
 use registry::{decode, encode};
@@ -46,11 +45,9 @@ fn answer_encode(text: &[u8], out: &mut [u8]) -> usize {
 
 // What stands behind a word of this topic, answered.
 pub fn answer(word: &[u8], text: &[u8], out: &mut [u8]) -> usize {
-    if same(word, b"decode") {
-        return answer_decode(text, out);
+    match word {
+        b"decode" => answer_decode(text, out),
+        b"encode" => answer_encode(text, out),
+        _ => 0,
     }
-    if same(word, b"encode") {
-        return answer_encode(text, out);
-    }
-    0
 }

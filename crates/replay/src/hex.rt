@@ -1,5 +1,4 @@
 // Bytes as hex: two digits for each, lower-case, and `-` for no bytes.
-use check::same;
 
 // More than a digit is worth.
 const NO_DIGIT: u8 = 16;
@@ -43,8 +42,7 @@ fn pairs_in(text: &[u8], out: &mut [u8]) -> Hex {
     if out.len() < n {
         return Hex::Not;
     }
-    let mut i = 0;
-    while i < n {
+    for i in 0..n {
         let high = digit_of(text[2 * i]);
         let low = digit_of(text[2 * i + 1]);
         if 15 < high {
@@ -54,18 +52,15 @@ fn pairs_in(text: &[u8], out: &mut [u8]) -> Hex {
             return Hex::Not;
         }
         out[i] = high * 16 + low;
-        i += 1;
     }
     Hex::Bytes(n)
 }
 
 // How many bytes all of text is, which stand at the start of `out` then. An empty text is none.
 pub fn bytes_in(text: &[u8], out: &mut [u8]) -> Hex {
-    if same(text, b"-") {
-        return Hex::Bytes(0);
+    match text {
+        b"-" => Hex::Bytes(0),
+        [] => Hex::Not,
+        _ => pairs_in(text, out),
     }
-    if text.len() == 0 {
-        return Hex::Not;
-    }
-    pairs_in(text, out)
 }

@@ -8,15 +8,22 @@
 // It holds one line, one block of input and one of output, however long the input is. What a block asks is written before
 // the next one is read, in as few writes as it fits.
 //
-// What can't be read or written is said on standard error, and ends the program: the language has no exit status, and answers
-// that are cut off must not be taken for all of them. Of a reader that went away nothing is said.
+// What can't be read or written is said on standard error, and ends the program with status 1: answers that are cut off must
+// not be taken for all of them. Of a reader that went away nothing is said.
 #![tactic(auto)]
 
-ghost use Rattle.std.specs.Prelude.{◌≤◌, ◌<◌, length};
+ghost use Rattle.std.specs.Prelude.{◌≡◌, ◌≢◌, ◌≤◌, ◌<◌, length, IfOk, OnOk, OnErr};
+ghost use Rattle.std.specs.IoError.{error_kind};
+ghost use Rattle.std.specs.Io.KnownBytes.{Appends};
 
-use libc::{EINTR, EPIPE, STDIN_FILENO, STDOUT_FILENO};
+use std::io;
+use std::io::{ErrorKind, Read, Write};
+use std::process::ExitCode;
 use stream::{feed, last_line};
 use texts::first;
+
+// The bytes of a block.
+const BLOCK: usize = 65536;
 
 // How many bytes of a line are held, and how many turns are left.
 #[derive(Drop)]
@@ -25,88 +32,128 @@ struct Turned {
     turns: u64,
 }
 
-// Writes answers. It is false where that fails, which it has said, unless it was a reader that went away.
-fn write_out(text: &[u8]) -> bool {
-    if io::write_all(STDOUT_FILENO, text) {
-        return true;
-    }
-    if os::errno() != EPIPE {
-        os::fail(b"stamps: standard output");
-    }
-    false
+// What ends the program before its input does.
+#[derive(Drop)]
+enum Failure {
+    Input(io::Error),
+    Output(io::Error),
 }
 
-// What is left where a read has failed. One that a signal interrupted is made again. Any other is said and is the last, and a
-// line that is held is dropped, since the rest of what it asks is missing.
-fn read_failed(n: usize, turns: u64) -> Turned
-    requires { 0 < turns }
-    ensures { result.turns < turns }
+// Says on standard error what failed, unless it was a reader that went away. Where that can't be written either, the status
+// alone says it.
+fn say(rt: &impl Eprint, failure: Failure) {
+    let _ = match failure {
+        Failure::Output(why) if why.kind() == ErrorKind::BrokenPipe => Ok(()),
+        Failure::Output(why) => eprintln!(rt; "stamps: standard output: {why}"),
+        Failure::Input(why) => eprintln!(rt; "stamps: standard input: {why}"),
+    };
+}
+
+// Writes answers, all of them where it is Ok.
+fn write_out<W: Write>(output: &mut W, text: &[u8]) -> Result<(), Failure>
+    ensures { OnOk result (Appends (W.contents output.old) (W.contents output.new) text.now) }
 {
-    if os::errno() == EINTR {
-        return Turned {
+    output.write_all(text).map_err(Failure::Output)
+}
+
+// What is left where a read has failed. One that a signal interrupted is made again. Any other ends the program, and a line
+// that is held gets no answer, since the rest of what it asks is missing.
+fn read_failed(n: usize, turns: u64, why: io::Error) -> Result<Turned, Failure>
+    requires { 0 < turns }
+    ensures fewer { IfOk result (λ turned. turned.turns < turns) }
+    ensures again { OnOk result (error_kind why ≡ ErrorKind.Interrupted) }
+    ensures fails { OnErr result (error_kind why ≢ ErrorKind.Interrupted) }
+{
+    if why.kind() == ErrorKind::Interrupted {
+        return Ok(Turned {
             held: n,
             turns: turns - 1,
-        };
+        });
     }
-    os::fail(b"stamps: standard input");
-    Turned { held: 0, turns: 0 }
+    Err(Failure::Input(why))
 }
 
-// Answers the lines of a block. No turns are left where nothing more can be written, and then nothing is held.
-fn answer_block(held: &mut [u8; 65], n: usize, block: &[u8], out: &mut [u8], turns: u64) -> Turned
+// Answers the lines of a block.
+fn answer_block(
+    output: &mut impl Write,
+    held: &mut [u8; 65],
+    n: usize,
+    block: &[u8],
+    out: &mut [u8],
+    turns: u64,
+) -> Result<Turned, Failure>
     requires { 48 ≤ length out.old }
-    ensures { result.turns ≤ turns }
+    ensures { IfOk result (λ turned. turned.turns ≤ turns) }
 {
     let mut len = n;
     let mut from = 0;
     while from < block.len() {
         let fed = feed(held, len, &block[from..], out);
-        if !write_out(first(out, fed.wrote)) {
-            return Turned { held: 0, turns: 0 };
-        }
+        write_out(output, first(out, fed.wrote))?;
         len = fed.held;
         from += fed.taken;
     }
-    Turned { held: len, turns }
+    Ok(Turned { held: len, turns })
 }
 
 // Reads a block and answers its lines. No turns are left where the input has ended.
-fn turn(held: &mut [u8; 65], n: usize, block: &mut [u8], out: &mut [u8], turns: u64) -> Turned
+fn turn(
+    input: &mut impl Read,
+    output: &mut impl Write,
+    held: &mut [u8; 65],
+    n: usize,
+    block: &mut [u8],
+    out: &mut [u8],
+    turns: u64,
+) -> Result<Turned, Failure>
     requires room { 48 ≤ length out.old }
     requires some_turns { 0 < turns }
-    ensures { result.turns < turns }
+    ensures { IfOk result (λ turned. turned.turns < turns) }
 {
-    let got = libc::read(STDIN_FILENO, block);
-    if got < 0 {
-        return read_failed(n, turns);
+    match input.read(block) {
+        Ok(0) => Ok(Turned { held: n, turns: 0 }),
+        Ok(k) => answer_block(output, held, n, first(block, k), out, turns - 1),
+        Err(why) => read_failed(n, turns, why),
     }
-    let k = io::count(got, block);
-    if k == 0 {
-        return Turned { held: n, turns: 0 };
-    }
-    answer_block(held, n, first(block, k), out, turns - 1)
 }
 
 // All of the input but a last line that lacks its LF, whose bytes it counts. A proved loop has to end, and nothing says
 // that the input does, so it counts its turns down, from a number that no run uses up.
-fn run(held: &mut [u8; 65], block: &mut [u8], out: &mut [u8]) -> usize
+fn run(
+    input: &mut impl Read,
+    output: &mut impl Write,
+    held: &mut [u8; 65],
+    block: &mut [u8],
+    out: &mut [u8],
+) -> Result<usize, Failure>
     requires { 48 ≤ length out.old }
 {
     let mut n = 0;
     let mut turns = u64::MAX;
     while 0 < turns {
-        let turned = turn(held, n, block, out, turns);
+        let turned = turn(input, output, held, n, block, out, turns)?;
         n = turned.held;
         turns = turned.turns;
     }
-    n
+    Ok(n)
 }
 
-fn main() {
+// All of the input.
+fn answer_all(input: &mut impl Read, output: &mut impl Write) -> Result<(), Failure> {
     let mut held = [0u8; 65];
-    let mut block = io::large_buffer();
-    let mut out = io::large_buffer();
-    let n = run(&mut held, &mut block, &mut out);
+    let mut block = [0u8; BLOCK];
+    let mut out = [0u8; BLOCK];
+    let n = run(input, output, &mut held, &mut block, &mut out)?;
     let k = last_line(&held, n, &mut out);
-    write_out(first(&out, k));
+    write_out(output, first(&out, k))
+}
+
+fn main(rt: HostRuntime) -> ExitCode {
+    match answer_all(&mut rt.stdin(), &mut rt.stdout()) {
+        Ok(()) => ExitCode::SUCCESS,
+        Err(failure) => {
+            say(&rt, failure);
+            ExitCode::FAILURE
+        }
+    }
 }

@@ -4,11 +4,11 @@ use crate::words::comes_back;
 use instant::Instant;
 use registry::{Decoded, Encoded, decode, encode};
 use signed::{from_bits, to_bits};
-use std::num::{wrapping_add_u64, wrapping_sub_u64};
+use std::io;
 
 // The words of 2024-02-29 in a layout: groups of `size` words in a row, from the word `first` on, each group `apart` from
 // the one before it.
-#[derive(Drop)]
+#[derive(Clone, Copy)]
 struct Day {
     layout: u32,
     first: u64,
@@ -80,7 +80,7 @@ pub fn try_word(layout: u32, word: i64, marks: &mut [u8]) -> Outcome {
     if t.nanos != 0 {
         return Outcome::Wrong;
     }
-    let second = wrapping_sub_u64(to_bits(t.seconds), MIDNIGHT) as usize;
+    let second = to_bits(t.seconds).wrapping_sub(MIDNIGHT) as usize;
     if second < marks.len() {
         marks[second] = 1;
         return comes_back(layout, word, t);
@@ -93,11 +93,9 @@ fn try_group(day: Day, first: u64, marks: &mut [u8], before: Tally) -> Tally {
     let layout = day.layout;
     let size = day.size;
     let mut tally = before;
-    let mut k: u64 = 0;
-    while k < size {
-        let word = from_bits(wrapping_add_u64(first, k));
+    for k in 0..size {
+        let word = from_bits(first.wrapping_add(k));
         tally = tally.with(try_word(layout, word, marks));
-        k += 1;
     }
     tally
 }
@@ -107,18 +105,16 @@ fn try_words(day: Day, marks: &mut [u8]) -> Tally {
     let groups = day.groups;
     let mut tally = Tally::new();
     let mut first = day.first;
-    let mut group: u64 = 0;
-    while group < groups {
+    for _ in 0..groups {
         tally = try_group(day, first, marks, tally);
-        first = wrapping_add_u64(first, day.apart);
-        group += 1;
+        first = first.wrapping_add(day.apart);
     }
     tally
 }
 
 // An instant of the day, whose word says the latest second that is marked, not after it.
 pub fn try_instant(layout: u32, second: usize, nanos: u32, latest: usize) -> Outcome {
-    let seconds = from_bits(wrapping_add_u64(MIDNIGHT, second as u64));
+    let seconds = from_bits(MIDNIGHT.wrapping_add(second as u64));
     let written = encode(layout, Instant::new(seconds, nanos));
     let Encoded::Gives(word) = written else {
         return Outcome::Wrong;
@@ -130,7 +126,7 @@ pub fn try_instant(layout: u32, second: usize, nanos: u32, latest: usize) -> Out
     if u.nanos != 0 {
         return Outcome::Wrong;
     }
-    judged(to_bits(u.seconds) == wrapping_add_u64(MIDNIGHT, latest as u64))
+    judged(to_bits(u.seconds) == MIDNIGHT.wrapping_add(latest as u64))
 }
 
 // The latest marked second at a second, where `before` was the latest before it.
@@ -147,36 +143,29 @@ fn latest_at(marks: &[u8], second: usize, before: usize) -> usize {
 fn try_instants(layout: u32, marks: &[u8]) -> Tally {
     let mut tally = Tally::new();
     let mut latest = marks.len();
-    let mut second = 0;
-    while second < marks.len() {
+    for second in 0..marks.len() {
         latest = latest_at(marks, second, latest);
         tally = tally.with(try_instant(layout, second, 0, latest));
         tally = tally.with(try_instant(layout, second, Instant::NANOS, latest));
-        second += 1;
     }
     tally
 }
 
-// Prints both lines of a day, where the lines before were written.
-fn try_day(day: Day, before: Total) -> Total {
-    if !before.written {
-        return before;
-    }
+// Prints both lines of a day.
+fn try_day(rt: &impl Print, day: Day, before: Total) -> io::Result<Total> {
     let layout = day.layout;
     let mut marks = no_marks();
     let words = try_words(day, &mut marks);
     let instants = try_instants(layout, &marks);
-    let total = print_tally(layout, b"words of a day", words, before);
-    print_tally(layout, b"instants of a day", instants, total)
+    let total = print_tally(rt, layout, "words of a day", words, before)?;
+    print_tally(rt, layout, "instants of a day", instants, total)
 }
 
 // All days.
-pub fn try_days(before: Total) -> Total {
+pub fn try_days(rt: &impl Print, before: Total) -> io::Result<Total> {
     let mut total = before;
-    let mut k: usize = 0;
-    while k < 6 {
-        total = try_day(DAYS[k], total);
-        k += 1;
+    for day in &DAYS {
+        total = try_day(rt, *day, total)?;
     }
-    total
+    Ok(total)
 }

@@ -4,6 +4,7 @@ use crate::steps::Row;
 use crate::tally::{Tally, Total, judged, print_known};
 use crate::words::{comes_back, has_word, is_plain};
 use instant::Instant;
+use std::io;
 
 // 2024-02-29 00:00:00, and its words: in layout 9, and in 3 with a weekday.
 const MIDNIGHT: i64 = 1709164800;
@@ -92,10 +93,10 @@ fn try_ticks(before: Tally) -> Tally {
 }
 
 // Prints their line, the first.
-pub fn try_known() -> Total {
+pub fn try_known(rt: &impl Print) -> io::Result<Total> {
     let words = try_words(Tally::new());
     let plain_words = try_plain_words(words);
     let day = try_day(plain_words);
     let steps = try_steps(day);
-    print_known(try_ticks(steps))
+    print_known(rt, try_ticks(steps))
 }

@@ -11,7 +11,8 @@
 //   words of every zone    in layout 14, every zone byte with every byte of the seconds: as the words of a day
 //
 // A line counts what was right, what the registry refused and what was wrong; the last line is what was wrong in all, the known
-// apart. Where a line can't be written, that is said on standard error, and the program ends.
+// apart. Where a line can't be written, that is said on standard error, and the program ends with status 1. Of a reader that
+// went away nothing is said.
 //
 // Nothing is proved here of what is written: the program is safe, ends, and is run.
 #![tactic(auto)]
@@ -28,11 +29,33 @@ use crate::known::try_known;
 use crate::steps::try_steps;
 use crate::tally::print_total;
 use crate::zones::try_zones;
+use std::io;
+use std::io::ErrorKind;
+use std::process::ExitCode;
 
-fn main() {
-    let known = try_known();
-    let days = try_days(known);
-    let steps = try_steps(days);
-    let zones = try_zones(steps);
-    print_total(zones);
+// Says on standard error why a line was not written, unless it was a reader that went away. Where that can't be written either,
+// the status alone says it.
+fn say(rt: &impl Eprint, why: io::Error) {
+    if why.kind() != ErrorKind::BrokenPipe {
+        let _ = eprintln!(rt; "try_loss: standard output: {why}");
+    }
+}
+
+// Every line, until one can't be written.
+fn try_all(rt: &impl Print) -> io::Result<()> {
+    let known = try_known(rt)?;
+    let days = try_days(rt, known)?;
+    let steps = try_steps(rt, days)?;
+    let zones = try_zones(rt, steps)?;
+    print_total(rt, zones)
+}
+
+fn main(rt: HostRuntime) -> ExitCode {
+    match try_all(&rt) {
+        Ok(()) => ExitCode::SUCCESS,
+        Err(why) => {
+            say(&rt, why);
+            ExitCode::FAILURE
+        }
+    }
 }

@@ -4,7 +4,7 @@ use crate::words::{has_word, is_plain};
 use instant::Instant;
 use registry::{Decoded, Encoded, decode, encode};
 use signed::{from_bits, rem_floor, to_bits};
-use std::num::{wrapping_add_u64, wrapping_sub_u64};
+use std::io;
 
 // The seconds between two words of a layout, and the first and the last second that it writes.
 #[derive(Clone, Copy)]
@@ -143,7 +143,7 @@ pub fn is_latest(step: u64, t: Instant, u: Instant) -> bool {
     if u.nanos != 0 {
         return false;
     }
-    wrapping_sub_u64(to_bits(t.seconds), to_bits(u.seconds)) == rem_floor(t.seconds, step)
+    to_bits(t.seconds).wrapping_sub(to_bits(u.seconds)) == rem_floor(t.seconds, step)
 }
 
 // The seconds from the first day that a word of layout 16 has to 1970-01-01.
@@ -157,15 +157,15 @@ pub fn is_nearest(t: Instant, word: i64) -> bool {
     let day = (bits / 4294967296 + 2147483648) % 4294967296;
     let ticks = bits % 4294967296;
     let second = day * 86400 + ticks / 300;
-    let seconds = wrapping_add_u64(to_bits(t.seconds), SQL_TO_1970);
-    let passed = wrapping_sub_u64(wrapping_add_u64(seconds, 1), second);
+    let seconds = to_bits(t.seconds).wrapping_add(SQL_TO_1970);
+    let passed = seconds.wrapping_add(1).wrapping_sub(second);
     if 2 < passed {
         return false;
     }
     let nanos = t.nanos as u64;
     let time = passed * 3000000000 + nanos * 3 + 5000000;
     let tick = 3000000000 + ticks % 300 * 10000000;
-    wrapping_sub_u64(time, tick) < 10000000
+    time.wrapping_sub(tick) < 10000000
 }
 
 // Whether a word of t says an instant u as it should.
@@ -200,37 +200,30 @@ fn instant(row: Row, k: u64) -> Instant {
     let nanos = NANOS[(k % 10) as usize];
     let second = k / 10 % AROUND;
     let from = to_bits(center(row, k / 10 / AROUND));
-    let seconds = wrapping_sub_u64(wrapping_add_u64(from, second), AROUND / 2);
+    let seconds = from.wrapping_add(second).wrapping_sub(AROUND / 2);
     Instant::new(from_bits(seconds), nanos)
 }
 
 // All instants of a layout.
 fn try_instants(row: Row) -> Tally {
     let mut tally = Tally::new();
-    let mut k: u64 = 0;
-    while k < INSTANTS {
+    for k in 0..INSTANTS {
         tally = tally.with(try_instant(row, instant(row, k)));
-        k += 1;
     }
     tally
 }
 
-// Prints the line of a layout, where the lines before were written.
-fn try_layout(row: Row, before: Total) -> Total {
-    if !before.written {
-        return before;
-    }
+// Prints the line of a layout.
+fn try_layout(rt: &impl Print, row: Row, before: Total) -> io::Result<Total> {
     let tally = try_instants(row);
-    print_tally(row.layout, b"instants around steps", tally, before)
+    print_tally(rt, row.layout, "instants around steps", tally, before)
 }
 
 // All layouts.
-pub fn try_steps(before: Total) -> Total {
+pub fn try_steps(rt: &impl Print, before: Total) -> io::Result<Total> {
     let mut total = before;
-    let mut k: usize = 0;
-    while k < 16 {
-        total = try_layout(ROWS[k], total);
-        k += 1;
+    for row in &ROWS {
+        total = try_layout(rt, *row, total)?;
     }
-    total
+    Ok(total)
 }

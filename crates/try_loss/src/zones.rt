@@ -3,6 +3,7 @@ use crate::tally::{Outcome, Tally, Total, print_tally};
 use crate::words::comes_back;
 use registry::{Decoded, decode};
 use signed::from_bits;
+use std::io;
 
 const LAYOUT: u32 = 14;
 
@@ -24,19 +25,14 @@ pub fn try_word(word: i64) -> Outcome {
 // All words of the last two bytes.
 fn try_words() -> Tally {
     let mut tally = Tally::new();
-    let mut k: u64 = 0;
-    while k < 65536 {
+    for k in 0..65536 {
         tally = tally.with(try_word(from_bits(FIRST + k)));
-        k += 1;
     }
     tally
 }
 
-// Prints the line, where the lines before were written.
-pub fn try_zones(before: Total) -> Total {
-    if !before.written {
-        return before;
-    }
+// Prints the line.
+pub fn try_zones(rt: &impl Print, before: Total) -> io::Result<Total> {
     let tally = try_words();
-    print_tally(LAYOUT, b"words of every zone", tally, before)
+    print_tally(rt, LAYOUT, "words of every zone", tally, before)
 }
