@@ -32,7 +32,7 @@ fn main() {
     }
 
     if !target.starts_with("x86_64") {
-        println!("cargo:warning=the library is built for {target} to be tested there; the Rattle kit compiles for x86-64");
+        println!("cargo:warning=the library for {target} is for tests there; what is shipped is for x86-64");
     }
     if let Some(folder) = named {
         if !folder.is_absolute() {
