@@ -9,7 +9,7 @@ ghost use Rattle.std.specs.Prelude.{◌≡◌};
 ghost use Rattle.byte_orders.specs.Orders.{reversed, year_swapped};
 
 // The order of the word's bytes, from that of the fields' places.
-#[derive(Clone, Copy)]
+#[derive(Clone, Copy, Debug, PartialEq, Eq)]
 pub enum Order {
     Straight,
     // The low four bytes are reversed.
@@ -19,17 +19,18 @@ pub enum Order {
 }
 
 // The low four bytes reversed; what lies above stays.
+#[tactic(auto, unfolding(crate::specs::Orders::reversed))]
 pub fn reverse(p: u64) -> u64
     ensures { result ≡ reversed p }
 {
-    p % 256 * 16777216
-        + p / 256 % 256 * 65536
-        + p / 65536 % 256 * 256
-        + p / 16777216 % 256
-        + p / 4294967296 * 4294967296
+    let low = (p % 4294967296) as u32;
+    p / 4294967296 * 4294967296 + low.swap_bytes() as u64
 }
 
 // The two bytes from bit 40 on exchanged; what lies above and below stays.
+//
+// Kept: a sum of its parts: by `swap_bytes` of the year's 16 bits, 10^9 turns took 3.1 s in place of 2.4 s.
+#[tactic(auto, unfolding(crate::specs::Orders::year_swapped))]
 pub fn swap_year(p: u64) -> u64
     ensures { result ≡ year_swapped p }
 {

@@ -1,4 +1,2 @@
-pub mod StampLength
 pub mod OracleYear
-pub mod UdfZone
 pub mod Promises

@@ -1,42 +1,43 @@
 // CP56Time2a: seven bytes.
 //
 // Ported from timeglyph's src/compose.rs (Apache-2.0; see NOTICE), and changed.
-ghost use Rattle.std.specs.Prelude.{◌≡◌, length};
-ghost use Rattle.instant.specs.Answers.{read_decoded};
-ghost use Rattle.day_time.specs.Answers.{read_seconds, seconds_for};
+ghost use Rattle.std.specs.Prelude.{◌≡◌};
+ghost use Rattle.refusal.specs.Answers.{answer_of};
 ghost use Rattle.byte_stamps.specs.Cp56Stamp.{cp56_fields, cp56};
 
-use crate::bytes::{byte_of, word_of};
-use civil::seconds_at;
-use day_time::Seconds;
-use instant::{Decoded, Instant};
+use civil::seconds_of;
+use day_time::Civil;
+use instant::Instant;
+use octets::get16;
 use refusal::Refusal;
 
 // A CP56Time2a's civil time: the milliseconds of the minute come first.
-fn cp56_seconds(stamp: &[u8]) -> Seconds
-    requires { length stamp.now ≡ 7 }
-    ensures { read_seconds result ≡ seconds_for (cp56_fields stamp.now) }
+fn cp56_time(stamp: &[u8; 7]) -> Civil
+    ensures { result ≡ cp56_fields stamp.now }
 {
-    seconds_at(
-        (2000 + byte_of(stamp, 6) % 128) as i64,
-        byte_of(stamp, 5) % 16,
-        byte_of(stamp, 4) % 32,
-        byte_of(stamp, 3) % 32,
-        byte_of(stamp, 2) % 64,
-        word_of(stamp, 0) / 1000,
-    )
+    let &[_, _, minute, hour, day, month, year] = stamp;
+    Civil {
+        year: 2000 + (year % 128) as i64,
+        month: (month % 16) as u64,
+        day: (day % 32) as u64,
+        hour: (hour % 32) as u64,
+        minute: (minute % 64) as u64,
+        second: get16(stamp) as u64 / 1000,
+    }
 }
 
-pub fn cp56time2a(stamp: &[u8]) -> Decoded
-    ensures { read_decoded result ≡ cp56 stamp.now }
+#[tactic(auto, unfolding(crate::specs::Cp56Stamp::cp56))]
+pub fn cp56time2a(stamp: &[u8]) -> Result<Instant, Refusal>
+    ensures { answer_of result ≡ cp56 stamp.now }
 {
-    if stamp.len() != 7 {
-        return Decoded::Refused(Refusal::LENGTH);
-    }
-    let found = cp56_seconds(stamp);
-    let Seconds::Gives(seconds) = found else {
-        return Decoded::Refused(found.refusal());
+    let Ok(stamp) = stamp.try_into() else {
+        return Err(Refusal::Length);
     };
-    let nanos = (word_of(stamp, 0) % 1000 * 1000000) as u32;
-    Decoded::Gives(Instant::new(seconds, nanos))
+    // Kept: `let .. else` in place of `?`: a rule of the project: document 01 names this form for this place.
+    let found = seconds_of(cp56_time(stamp));
+    let Ok(seconds) = found else {
+        return Err(found.unwrap_err());
+    };
+    let nanos = get16(stamp) as u32 % 1000 * 1000000;
+    Ok(Instant::new(seconds, nanos))
 }

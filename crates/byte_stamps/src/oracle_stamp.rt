@@ -1,43 +1,52 @@
 // Oracle DATE: seven bytes.
 //
 // Ported from timeglyph's src/compose.rs (Apache-2.0; see NOTICE), and changed.
-ghost use Rattle.std.specs.Prelude.{◌≡◌, length};
-ghost use Rattle.instant.specs.Answers.{read_decoded};
-ghost use Rattle.day_time.specs.Answers.{read_seconds, seconds_for};
-ghost use Rattle.byte_stamps.specs.OracleStamp.{oracle_fields, oracle_date};
+ghost use Rattle.std.specs.Prelude.{◌≡◌};
+ghost use Rattle.refusal.specs.Answers.{answer_of};
+ghost use Rattle.byte_stamps.specs.OracleStamp.{less_one, oracle_fields, oracle_date};
 
-use crate::bytes::byte_of;
-use civil::seconds_at;
-use day_time::Seconds;
-use instant::{Decoded, Instant};
+use civil::seconds_of;
+use day_time::Civil;
+use instant::Instant;
 use refusal::Refusal;
 
-// An Oracle DATE's civil time. The time of day is stored plus 1: a byte of 0 there is -1, and 255 stands for it, since
+// A byte less 1. The hour, the minute and the second are stored plus 1: a byte of 0 there is -1, and 255 stands for it, since
 // neither is an hour, a minute or a second.
-fn oracle_seconds(stamp: &[u8]) -> Seconds
-    requires { length stamp.now ≡ 7 }
-    ensures { read_seconds result ≡ seconds_for (oracle_fields stamp.now) }
+//
+// Kept: 255 for none: what may not change: `less_one` (specs/OracleStamp) says so.
+fn less_one(byte: u8) -> u64
+    ensures { result ≡ less_one byte }
 {
-    let years = byte_of(stamp, 0) * 100 + byte_of(stamp, 1);
-    seconds_at(
-        years as i64 - 10100,
-        byte_of(stamp, 2),
-        byte_of(stamp, 3),
-        (byte_of(stamp, 4) + 255) % 256,
-        (byte_of(stamp, 5) + 255) % 256,
-        (byte_of(stamp, 6) + 255) % 256,
-    )
+    (byte as u64 + 255) % 256
 }
 
-pub fn oracle_date(stamp: &[u8]) -> Decoded
-    ensures { read_decoded result ≡ oracle_date stamp.now }
+// An Oracle DATE's civil time.
+#[tactic(auto, using(crate::proofs::OracleYear::oracle_year))]
+fn oracle_time(stamp: &[u8; 7]) -> Civil
+    ensures { result ≡ oracle_fields stamp.now }
 {
-    if stamp.len() != 7 {
-        return Decoded::Refused(Refusal::LENGTH);
+    let &[century, year, month, day, hour, minute, second] = stamp;
+    Civil {
+        year: (century as u64 * 100 + year as u64) as i64 - 10100,
+        month: month as u64,
+        day: day as u64,
+        hour: less_one(hour),
+        minute: less_one(minute),
+        second: less_one(second),
     }
-    let found = oracle_seconds(stamp);
-    let Seconds::Gives(seconds) = found else {
-        return Decoded::Refused(found.refusal());
+}
+
+#[tactic(auto, unfolding(crate::specs::OracleStamp::oracle_date))]
+pub fn oracle_date(stamp: &[u8]) -> Result<Instant, Refusal>
+    ensures { answer_of result ≡ oracle_date stamp.now }
+{
+    let Ok(stamp) = stamp.try_into() else {
+        return Err(Refusal::Length);
     };
-    Decoded::Gives(Instant::at_second(seconds))
+    // Kept: `let .. else` in place of `?`: a rule of the project: document 01 names this form for this place.
+    let found = seconds_of(oracle_time(stamp));
+    let Ok(seconds) = found else {
+        return Err(found.unwrap_err());
+    };
+    Ok(Instant::at_second(seconds))
 }

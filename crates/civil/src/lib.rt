@@ -3,30 +3,37 @@
 #![tactic(auto)]
 
 ghost use Rattle.std.specs.Prelude.{◌≡◌, ◌<◌, ◌*◌, ◌^◌, true, nat_abs, pos, ◌+ℤ◌};
+ghost use Rattle.refusal.specs.Answers.{answer_of};
 ghost use Rattle.signed.specs.Floor.{floor_div, floor_rem};
 ghost use Rattle.gregorian.specs.Gregorian.{epoch_day};
 ghost use Rattle.day_time.specs.Times.{in_window};
-ghost use Rattle.day_time.specs.Answers.{read_seconds, read_fields, seconds_for, fields_for};
+ghost use Rattle.day_time.specs.Answers.{seconds_for, fields_for};
 
-use day_time::{Civil, Fields, Seconds, on_date, seconds_on};
-use gregorian::{Dated, Day, EPOCH_DAY, date_of, day_of};
+use day_time::{Civil, on_date, seconds_on};
+use gregorian::{EPOCH_DAY, date_of, day_of};
 use instant::Instant;
 use refusal::Refusal;
 
 // The seconds of the civil time of six numbers.
-pub fn seconds_at(year: i64, month: u64, day: u64, hour: u64, minute: u64, second: u64) -> Seconds
-    ensures { read_seconds result ≡ seconds_for (record { year = year; month = month; day = day; hour = hour; minute = minute; second = second }) }
+//
+// Kept: six numbers beside `Civil`, since it is a call that stands (docs/CONTRACTS.md).
+pub fn seconds_at(
+    year: i64,
+    month: u64,
+    day: u64,
+    hour: u64,
+    minute: u64,
+    second: u64,
+) -> Result<i64, Refusal>
+    ensures { answer_of result ≡ seconds_for (record { year = year; month = month; day = day; hour = hour; minute = minute; second = second }) }
 {
-    let found = day_of(year, month, day);
-    let Day::Gives(number) = found else {
-        return Seconds::Refused(found.refusal());
-    };
+    let number = day_of(year, month, day)?;
     seconds_on(number as i32, hour, minute, second)
 }
 
 // The seconds of a civil time.
-pub fn seconds_of(time: Civil) -> Seconds
-    ensures { read_seconds result ≡ seconds_for time }
+pub fn seconds_of(time: Civil) -> Result<i64, Refusal>
+    ensures { answer_of result ≡ seconds_for time }
 {
     seconds_at(
         time.year,
@@ -50,35 +57,27 @@ fn raised(seconds: i64) -> u64
     (seconds + EPOCH_SECONDS) as u64
 }
 
-// The number of the day that some seconds of the window lie in.
-fn day_number(seconds: i64) -> i64
+// The number of the day that some seconds of the window lie in, and the seconds that have passed of that day.
+fn day_and_passed(seconds: i64) -> (i64, u64)
     requires { in_window seconds ≡ true }
-    ensures { result ≡ floor_div seconds 86400 }
+    ensures day { result.0 ≡ floor_div seconds 86400 }
+    ensures passed { result.1 ≡ floor_rem seconds 86400 }
 {
-    (raised(seconds) / 86400) as i64 - EPOCH_DAY
-}
-
-// The seconds that have passed of that day.
-fn passed(seconds: i64) -> u64
-    requires { in_window seconds ≡ true }
-    ensures { result ≡ floor_rem seconds 86400 }
-{
-    raised(seconds) % 86400
+    let raised = raised(seconds);
+    ((raised / 86400) as i64 - EPOCH_DAY, raised % 86400)
 }
 
 // The civil time of some seconds.
-pub fn fields_of(seconds: i64) -> Fields
-    ensures { read_fields result ≡ fields_for seconds }
+pub fn fields_of(seconds: i64) -> Result<Civil, Refusal>
+    ensures { answer_of result ≡ fields_for seconds }
 {
     if seconds < Instant::FIRST {
-        return Fields::Refused(Refusal::WINDOW);
+        return Err(Refusal::Window);
     }
     if Instant::LAST < seconds {
-        return Fields::Refused(Refusal::WINDOW);
+        return Err(Refusal::Window);
     }
-    let found = date_of(day_number(seconds));
-    let Dated::Gives(date) = found else {
-        return Fields::Refused(found.refusal());
-    };
-    Fields::Gives(on_date(date, passed(seconds)))
+    let (day, passed) = day_and_passed(seconds);
+    let date = date_of(day)?;
+    Ok(on_date(date, passed))
 }

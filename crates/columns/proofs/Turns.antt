@@ -58,6 +58,10 @@ module _ (row : List ℕ → Answer (List ℕ)) (a b rows : ℕ) (input old : Li
           whole = (rw e at (turn h)) ∙ rw (t, u, v, append_assoc, shift) refl;
         }
 
+    -- a row that is written over itself
+    pub same : (bytes : List ℕ) → bytes ≡ take (b * i + b - b * i) (drop (b * i) out) → put_mid (b * i) (b * i + b - b * i) out bytes ≡ out
+    same bytes e = rw (e, take-append-drop) (take-append-drop (b * i) out)
+
     -- a row that is refused, and the end of the rows: the answer, and the bytes
     pub stop : (n : ℕ) → i < rows → row (take a (drop (a * i) input)) ≡ refused n →
         (i * 16 + n ≡ answer (rows_of row a b rows input old)) × (out ≡ (rows_of row a b rows input old).bytes)

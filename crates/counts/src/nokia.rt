@@ -2,38 +2,40 @@
 //
 // Ported from timeglyph's src/registry.rs (Apache-2.0; see NOTICE), and changed.
 ghost use Rattle.std.specs.Prelude.{◌≡◌};
-ghost use Rattle.instant.specs.Answers.{read_encoded, read_decoded};
+ghost use Rattle.refusal.specs.Answers.{answer_of};
 ghost use Rattle.counts.specs.Nokia.{nokia_decode, nokia_encode};
 
 use byte_orders::reverse;
-use instant::{Decoded, Encoded, Instant};
+use instant::Instant;
 use refusal::Refusal;
 
-pub fn decode_nokia(bits: u64) -> Decoded
-    ensures { read_decoded result ≡ nokia_decode bits }
+#[tactic(auto, using(crate::proofs::NokiaSeconds::reversed_small, crate::proofs::NokiaSeconds::no_count, crate::proofs::NokiaSeconds::counted, crate::proofs::NokiaSeconds::count_fits))]
+pub fn decode_nokia(bits: u64) -> Result<Instant, Refusal>
+    ensures { answer_of result ≡ nokia_decode bits }
 {
     if 4294967295 < bits {
-        return Decoded::Refused(Refusal::RANGE);
+        return Err(Refusal::Range);
     }
     let p = reverse(bits) as i64;
-    Decoded::Gives(Instant::at_second(p - 4294967295 + Instant::EPOCH_2050))
+    Ok(Instant::at_second(p - 4294967295 + Instant::EPOCH_2050))
 }
 
 // The first and the last second are those of p = 0 and of the largest p.
-pub fn encode_nokia(t: Instant) -> Encoded
-    ensures { read_encoded result ≡ nokia_encode t }
+#[tactic(auto, using(signed::proofs::Differences::raised, signed::proofs::Machine::read_nat, instant::proofs::Nanos::no_nanos, crate::proofs::NokiaSeconds::reversed_small, crate::proofs::NokiaSeconds::count, crate::proofs::NokiaSeconds::count_small, crate::proofs::NokiaSeconds::early, crate::proofs::NokiaSeconds::late, crate::proofs::NokiaSeconds::in_range_lem), unfolding(crate::specs::Nokia::nokia_encode))]
+pub fn encode_nokia(t: Instant) -> Result<i64, Refusal>
+    ensures { answer_of result ≡ nokia_encode t }
 {
     if Instant::NANOS < t.nanos {
-        return Encoded::Refused(Refusal::NANOS);
+        return Err(Refusal::Nanos);
     }
     let seconds = t.seconds;
     if seconds < -1770359295 {
-        return Encoded::Refused(Refusal::COUNT);
+        return Err(Refusal::Count);
     }
     if Instant::EPOCH_2050 < seconds {
-        return Encoded::Refused(Refusal::COUNT);
+        return Err(Refusal::Count);
     }
     let p = (seconds + 1770359295) as u64;
     let word = reverse(p) as i64;
-    Encoded::Gives(word)
+    Ok(word)
 }

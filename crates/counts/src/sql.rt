@@ -3,44 +3,44 @@
 // Ported from timeglyph's src/registry.rs (Apache-2.0; see NOTICE), and changed.
 ghost use Rattle.std.specs.Prelude.{◌≡◌, ◌<◌, ◌^◌};
 ghost use Rattle.std.specs.Int.Signed.{mag};
-ghost use Rattle.instant.specs.Answers.{read_encoded, read_decoded};
+ghost use Rattle.refusal.specs.Answers.{answer_of};
 ghost use Rattle.counts.specs.Sql.{sql_decode, sql_encode, day_word, rolled};
 
-use instant::{Decoded, Encoded, Instant};
+use instant::Instant;
 use refusal::Refusal;
 use signed::{div_floor, rem_floor, sign_extended};
 
-pub fn decode_sql(bits: u64) -> Decoded
-    ensures { read_decoded result ≡ sql_decode bits }
+pub fn decode_sql(bits: u64) -> Result<Instant, Refusal>
+    ensures { answer_of result ≡ sql_decode bits }
 {
     let ticks = bits % 4294967296;
     if 25920000 <= ticks {
-        return Decoded::Refused(Refusal::TICKS);
+        return Err(Refusal::Ticks);
     }
     let day = sign_extended(bits / 4294967296, 32);
     let seconds = day * 86400 + (ticks / 300) as i64 + Instant::EPOCH_1900;
     let nanos = (ticks % 300 * 10000000 / 3) as u32;
-    Decoded::Gives(Instant::new(seconds, nanos))
+    Ok(Instant::new(seconds, nanos))
 }
 
 // A day above its ticks.
-fn day_word(day: i64, ticks: u64) -> Encoded
+fn day_word(day: i64, ticks: u64) -> Result<i64, Refusal>
     requires { (mag day < 2 ^ 50) × (ticks < 2 ^ 32) }
-    ensures { read_encoded result ≡ day_word day ticks }
+    ensures { answer_of result ≡ day_word day ticks }
 {
     if day < -2147483648 {
-        return Encoded::Refused(Refusal::COUNT);
+        return Err(Refusal::Count);
     }
     if 2147483647 < day {
-        return Encoded::Refused(Refusal::COUNT);
+        return Err(Refusal::Count);
     }
-    Encoded::Gives(day * 4294967296 + ticks as i64)
+    Ok(day * 4294967296 + ticks as i64)
 }
 
 // A full day's ticks are tick 0 of the next day.
-fn roll(day: i64, ticks: u64) -> Encoded
+fn roll(day: i64, ticks: u64) -> Result<i64, Refusal>
     requires { (mag day < 2 ^ 49) × (ticks < 2 ^ 32) }
-    ensures { read_encoded result ≡ rolled day ticks }
+    ensures { answer_of result ≡ rolled day ticks }
 {
     if ticks == 25920000 {
         return day_word(day + 1, 0);
@@ -49,12 +49,12 @@ fn roll(day: i64, ticks: u64) -> Encoded
 }
 
 // From 1900-01-01 to 1970-01-01 are 25,567 whole days, so the time of day is the same from either.
-pub fn encode_sql(t: Instant) -> Encoded
-    ensures { read_encoded result ≡ sql_encode t }
+pub fn encode_sql(t: Instant) -> Result<i64, Refusal>
+    ensures { answer_of result ≡ sql_encode t }
 {
     let nanos = t.nanos;
     if Instant::NANOS < nanos {
-        return Encoded::Refused(Refusal::NANOS);
+        return Err(Refusal::Nanos);
     }
     let seconds = t.seconds;
     let day = div_floor(seconds, 86400) + 25567;

@@ -9,7 +9,7 @@ use lib.Signed.{le_z, ◌≤ℤ◌}
 use mir.Syntax.{w32}
 use mir.Val.{SFits}
 use Rattle.refusal.specs.Answers.{gives, refused}
-use Rattle.refusal.proofs.Answers.{clash, failed, held}
+use Rattle.refusal.proofs.Answers.{clash, held}
 use Rattle.signed.specs.Floor.{floor_div, floor_rem}
 use Rattle.signed.proofs.Tests.{le_z_le, le_le_z, and_left, and_right}
 use Rattle.gregorian.specs.Gregorian.{day_number}
@@ -23,12 +23,6 @@ use Rattle.day_time.specs.Answers.{seconds_for, fields_for, seconds_on}
 use Rattle.day_time.specs.declared.times.Civil.{Civil}
 
 -- ---- from a date
-
--- a date's refusal is the civil time's
-pub no_day : (c : Civil) {n : ℕ} → refused n ≡ day_for c.year c.month c.day → refused n ≡ seconds_for c
-no_day c {n} e =
-    let f = failed (good_date c.year c.month c.day) (day_number c.year c.month c.day) 3 n e in
-    rw f (rw f at e)
 
 pub some_day : (c : Civil) {z : ℤ} → gives z ≡ day_for c.year c.month c.day → seconds_for c ≡ seconds_on z c.hour c.minute c.second
 unfolding seconds_of

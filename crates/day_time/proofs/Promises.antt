@@ -1,5 +1,5 @@
 -- Proofs of what specs/Promises.antt states.
-use mathlib.Core.Path.{◌≡◌, refl, sym, ap, ◌∙◌}
+use mathlib.Core.Path.{◌≡◌, sym, ap, ◌∙◌}
 use mathlib.Core.Bool.{true, ◌&&◌}
 use Prim.Native.Nat.{ℕ, zero, suc, ◌+◌, ◌-◌, ◌*◌, ◌/◌, ◌%◌, ◌<◌, ◌^◌}
 use native.Mathlib.Omega.{arith}
@@ -8,8 +8,7 @@ use lib.Dec.{ltb, leb→le}
 use lib.IntN.{ℤ, pos, negsuc, ◌+ℤ◌, ◌-ℤ◌, ◌*ℤ◌, +ℤ_assoc, +ℤ-neg_ℤ_cancel}
 use lib.Signed.{mag, ◌≤ℤ◌}
 use borrow.Author.Tests.{ltb-true, ne_eqb}
-use Rattle.refusal.specs.Answers.{refused}
-use Rattle.refusal.proofs.Answers.{only, same_refusal}
+use Rattle.refusal.proofs.Promises.{one_answer}
 use Rattle.signed.specs.Floor.{quotient, rest, floor_div, floor_rem}
 use Rattle.signed.proofs.Floor.{floor_law, floor_back, rest_of_rest}
 use Rattle.signed.proofs.Tests.{and_left, and_right}
@@ -22,13 +21,9 @@ use Rattle.gregorian.proofs.Days.{year_low, year_high}
 use Rattle.gregorian.proofs.Trip.{its_year, its_month_low, its_month_high, its_day_low, its_day_high}
 use Rattle.gregorian.proofs.Promises.{day_of_its_date, date_of_its_day}
 use Rattle.day_time.specs.Times.{in_window, good_time, good, seconds_from, seconds_of, fields_at}
-use Rattle.day_time.specs.Answers.{read_seconds, read_fields, seconds_for, fields_for}
-use Rattle.day_time.specs.Promises.{SecondsOfTheirFields, FieldsOfTheirSeconds, OneTime, OneAnswer, EnginesAgree, FieldRanges, WindowSize, LinearSecond, FlooredSeconds, Epochs, with_second}
+use Rattle.day_time.specs.Answers.{seconds_for, fields_for}
+use Rattle.day_time.specs.Promises.{SecondsOfTheirFields, FieldsOfTheirSeconds, OneTime, EnginesAgree, FieldRanges, WindowSize, LinearSecond, FlooredSeconds, Epochs, with_second}
 use Rattle.day_time.specs.declared.times.Civil.{Civil}
-use Rattle.day_time.specs.declared.times.Seconds.{Seconds}
-use Rattle.day_time.specs.declared.times.Seconds.TheVariants as seconds
-use Rattle.day_time.specs.declared.times.Fields.{Fields}
-use Rattle.day_time.specs.declared.times.Fields.TheVariants as fields
 use Rattle.day_time.proofs.Window.{time_good}
 use Rattle.day_time.proofs.Days.{window_low, window_high, window_day}
 
@@ -89,25 +84,10 @@ fields_of_their_seconds c g =
 pub one_time : OneTime
 one_time a b g h e = sym (fields_of_their_seconds a g).1 ∙ ap fields_at e ∙ (fields_of_their_seconds b h).1
 
--- ---- one answer
-
-told_seconds : (a b : Seconds) → read_seconds a ≡ read_seconds b → a ≡ b
-told_seconds (seconds.Gives s) (seconds.Gives t) e = ap seconds.Gives cc
-told_seconds (seconds.Gives s) (seconds.Refused n) e = cc
-told_seconds (seconds.Refused m) (seconds.Gives t) e = cc
-told_seconds (seconds.Refused m) (seconds.Refused n) e = ap seconds.Refused (same_refusal m n (refused m.number) refl e)
-
-told_fields : (a b : Fields) → read_fields a ≡ read_fields b → a ≡ b
-told_fields (fields.Gives s) (fields.Gives t) e = ap fields.Gives cc
-told_fields (fields.Gives s) (fields.Refused n) e = cc
-told_fields (fields.Refused m) (fields.Gives t) e = cc
-told_fields (fields.Refused m) (fields.Refused n) e = ap fields.Refused (same_refusal m n (refused m.number) refl e)
-
-pub one_answer : OneAnswer
-one_answer = (λ x a b p q. only read_seconds told_seconds x a b p q, λ x a b p q. only read_fields told_fields x a b p q)
+-- ---- one answer from both engines
 
 pub engines_agree : EnginesAgree
-engines_agree = (λ c a b p q. one_answer.0 (seconds_for c) a b p q, λ s a b p q. one_answer.1 (fields_for s) a b p q)
+engines_agree = (λ c a b p q. one_answer ℤ (seconds_for c) a b p q, λ s a b p q. one_answer Civil (fields_for s) a b p q)
 
 -- ---- the second
 

@@ -1,17 +1,16 @@
 -- Seconds on a day: how large they are, and the tests of the time of day and of the window as the code makes them.
 use mathlib.Core.Path.{◌≡◌}
-use mathlib.Core.Bool.{true, false, ◌&&◌}
+use mathlib.Core.Bool.{true, false}
 use Prim.Native.Nat.{ℕ, zero, suc, ◌*◌, ◌<◌, ◌≤◌, ◌^◌}
 use native.Mathlib.Omega.{arith}
-use lib.Dec.{ltb}
 use lib.IntN.{ℤ, pos, negsuc, neg_ℤ, ◌+ℤ◌, ◌*ℤ◌}
-use lib.Signed.{mag, lt_z, le_z}
+use lib.Signed.{mag, lt_z}
 use mir.Syntax.{w64}
 use mir.Val.{SFits}
-use borrow.Author.Tests.{lt-ltb, le-ltb}
+use borrow.Author.Tests.{lt-ltb}
 use Rattle.refusal.specs.Answers.{gives, refused}
 use Rattle.signed.proofs.Differences.{neg_plus, fits}
-use Rattle.signed.proofs.Tests.{ge_le_z, lt_le_z, and_false}
+use Rattle.signed.proofs.Tests.{ge_le_z, and_false}
 use Rattle.day_time.specs.Times.{in_window, good_time, seconds_from}
 use Rattle.day_time.specs.Answers.{seconds_on}
 
@@ -20,10 +19,6 @@ use Rattle.day_time.specs.Answers.{seconds_on}
 neg_fits : (x : ℕ) → x ≤ 2 ^ 63 → SFits w64 (neg_ℤ (pos x))
 neg_fits zero h = record { sfits = omega arith }
 neg_fits (suc x) h = record { sfits = omega arith }
-
-pub days_fit : (z : ℤ) → mag z < 2 ^ 31 → SFits w64 (z *ℤ pos 86400)
-days_fit (pos a) h = record { sfits = omega arith }
-days_fit (negsuc a) h = neg_fits (suc a * 86400) (omega arith)
 
 pub seconds_fit : (z : ℤ) (t : ℕ) → mag z < 2 ^ 31 → t < 86400 → SFits w64 (z *ℤ pos 86400 +ℤ pos t)
 seconds_fit (pos a) t h l = record { sfits = omega arith }
@@ -34,25 +29,10 @@ seconds_fit (negsuc a) t h l = rw (neg_plus (suc a * 86400) t) (fits w64 t (suc 
 pub time_good : (h m s : ℕ) → h < 24 → m < 60 → s < 60 → good_time h m s ≡ true
 time_good h m s p q r = rw (lt-ltb h 24 p, lt-ltb m 60 q, lt-ltb s 60 r)
 
-pub window_early : (s : ℤ) → lt_z s (negsuc 377705023200) ≡ true → in_window s ≡ false
-window_early s h = rw (lt_le_z s (negsuc 377705023200) h)
-
-pub window_late : (s : ℤ) → lt_z (pos 253402207200) s ≡ true → in_window s ≡ false
-window_late s h = rw (lt_le_z (pos 253402207200) s h) (and_false (le_z (negsuc 377705023200) s))
-
 pub window_good : (s : ℤ) → lt_z s (negsuc 377705023200) ≡ false → lt_z (pos 253402207200) s ≡ false → in_window s ≡ true
 window_good s l h = rw (ge_le_z s (negsuc 377705023200) l) (ge_le_z (pos 253402207200) s h)
 
 -- ---- what they make of an answer
-
-pub hour_bad : (z : ℤ) (h m s : ℕ) → 23 < h → seconds_on z h m s ≡ refused 3
-hour_bad z h m s p = rw (le-ltb h 24 p)
-
-pub minute_bad : (z : ℤ) (h m s : ℕ) → 59 < m → seconds_on z h m s ≡ refused 3
-minute_bad z h m s p = rw (le-ltb m 60 p, and_false (ltb h 24))
-
-pub second_bad : (z : ℤ) (h m s : ℕ) → 59 < s → seconds_on z h m s ≡ refused 3
-second_bad z h m s p = rw (le-ltb s 60 p, and_false (ltb h 24 && ltb m 60))
 
 pub outside : (z : ℤ) (h m s : ℕ) → in_window (seconds_from z h m s) ≡ false → seconds_on z h m s ≡ refused 3
 outside z h m s e = rw (e, and_false (good_time h m s))

@@ -1,21 +1,8 @@
 -- What the calls answer: a value, or a number of the list of refusals.
 use Rattle.std.specs.Prelude.{if◌then◌else◌, ◌&&◌, ℕ, ℤ}
-use Rattle.refusal.specs.Answers.{Answer, gives, refused, refused_by}
+use Rattle.refusal.specs.Answers.{Answer, gives, refused}
 use Rattle.day_time.specs.Times.{good, good_time, in_window, seconds_from, seconds_of, fields_at}
 use Rattle.day_time.specs.declared.times.Civil.{Civil}
-use Rattle.day_time.specs.declared.times.Seconds.{Seconds}
-use Rattle.day_time.specs.declared.times.Seconds.TheVariants as seconds
-use Rattle.day_time.specs.declared.times.Fields.{Fields}
-use Rattle.day_time.specs.declared.times.Fields.TheVariants as fields
-
--- how the answers are read
-abbrev pub read_seconds : Seconds → Answer ℤ
-read_seconds (seconds.Gives s) = gives s
-read_seconds (seconds.Refused why) = refused_by why
-
-abbrev pub read_fields : Fields → Answer Civil
-read_fields (fields.Gives c) = gives c
-read_fields (fields.Refused why) = refused_by why
 
 -- the seconds of good fields; 3 for any others
 abbrev pub seconds_for : Civil → Answer ℤ

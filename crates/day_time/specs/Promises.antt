@@ -1,15 +1,14 @@
 -- What holds of civil times and seconds. Each is proved in proofs/Promises.antt.
-use Rattle.std.specs.Prelude.{◌≡◌, Bool, true, ℕ, ◌+◌, ◌*◌, ◌/◌, ◌≤◌, ◌<◌, ◌^◌, nat_lt, ℤ, pos, ◌+ℤ◌, ◌*ℤ◌, int_lt}
+use Rattle.std.specs.Prelude.{◌≡◌, Result, Bool, true, ℕ, ◌+◌, ◌*◌, ◌/◌, ◌≤◌, ◌<◌, ◌^◌, nat_lt, ℤ, pos, ◌+ℤ◌, ◌*ℤ◌, int_lt}
 use Rattle.std.specs.Int.Signed.{mag}
-use Rattle.refusal.specs.Answers.{Answer}
+use Rattle.refusal.specs.Answers.{answer_of}
+use Rattle.refusal.specs.declared.Refusal.{Refusal}
 use Rattle.signed.specs.Floor.{floor_div}
 use Rattle.instant.specs.Instants.{decides, epoch1601, epoch1900, epoch2050}
 use Rattle.gregorian.specs.Gregorian.{day_number}
 use Rattle.day_time.specs.Times.{in_window, good, seconds_of, fields_at}
-use Rattle.day_time.specs.Answers.{read_seconds, read_fields, seconds_for, fields_for}
+use Rattle.day_time.specs.Answers.{seconds_for, fields_for}
 use Rattle.day_time.specs.declared.times.Civil.{Civil}
-use Rattle.day_time.specs.declared.times.Seconds.{Seconds}
-use Rattle.day_time.specs.declared.times.Fields.{Fields}
 
 -- ---- there and back
 
@@ -25,21 +24,15 @@ FieldsOfTheirSeconds = (c : Civil) → good c ≡ true → (in_window (seconds_o
 abbrev pub OneTime : Type 0
 OneTime = (a b : Civil) → good a ≡ true → good b ≡ true → seconds_of a ≡ seconds_of b → a ≡ b
 
--- ---- one answer
+-- ---- one answer from both engines
 
--- whatever a definition says, all that a contract allows as its reading is equal
-abbrev pub OneAnswer : Type 0
-OneAnswer =
-    ((x : Answer ℤ) (a b : Seconds) → read_seconds a ≡ x → read_seconds b ≡ x → a ≡ b)
-    × ((x : Answer Civil) (a b : Fields) → read_fields a ≡ x → read_fields b ≡ x → a ≡ b)
-
--- so the two engines agree on every set of fields and on every number of seconds, refusals too. This is uniqueness, and it is
--- enough: the contracts of `civil::seconds_of` and `year_walk::seconds_of` both say `read_seconds r ≡ seconds_for c`, those of
--- `civil::fields_of` and `year_walk::fields_of` both say `read_fields r ≡ fields_for s`, and here any two such answers are equal
+-- the two engines agree on every set of fields and on every number of seconds, refusals too. This is uniqueness, and it is
+-- enough: the contracts of `civil::seconds_of` and `year_walk::seconds_of` both say `answer_of r ≡ seconds_for c`, those of
+-- `civil::fields_of` and `year_walk::fields_of` both say `answer_of r ≡ fields_for s`, and here any two such answers are equal
 abbrev pub EnginesAgree : Type 0
 EnginesAgree =
-    ((c : Civil) (a b : Seconds) → read_seconds a ≡ seconds_for c → read_seconds b ≡ seconds_for c → a ≡ b)
-    × ((s : ℤ) (a b : Fields) → read_fields a ≡ fields_for s → read_fields b ≡ fields_for s → a ≡ b)
+    ((c : Civil) (a b : Result ℤ Refusal) → answer_of a ≡ seconds_for c → answer_of b ≡ seconds_for c → a ≡ b)
+    × ((s : ℤ) (a b : Result Civil Refusal) → answer_of a ≡ fields_for s → answer_of b ≡ fields_for s → a ≡ b)
 
 -- ---- order
 

@@ -7,4 +7,4 @@
 
 mod times;
 
-pub use times::{Civil, Fields, Seconds, on_date, seconds_on};
+pub use times::{Civil, on_date, seconds_on};

@@ -1,8 +1,8 @@
-// Civil times, the answers about one, and the time of day.
+// Civil times, and the time of day.
 ghost use Rattle.std.specs.Prelude.{◌≡◌};
-ghost use Rattle.refusal.specs.Answers.{refusal_in};
+ghost use Rattle.refusal.specs.Answers.{answer_of};
 ghost use Rattle.day_time.specs.Times.{on_date};
-ghost use Rattle.day_time.specs.Answers.{read_seconds, read_fields, seconds_on};
+ghost use Rattle.day_time.specs.Answers.{seconds_on};
 
 use gregorian::Date;
 use instant::Instant;
@@ -19,66 +19,28 @@ pub struct Civil {
     pub second: u64,
 }
 
-// The seconds of a civil time, or why there are none.
-#[derive(Clone, Copy)]
-pub enum Seconds {
-    Gives(i64),
-    Refused(Refusal),
-}
-
-impl Seconds {
-    // The refusal, to be handed on: `NONE` where there are seconds.
-    pub fn refusal(self) -> Refusal
-        ensures { result ≡ refusal_in (read_seconds self) }
-    {
-        match self {
-            Seconds::Gives(_) => Refusal::NONE,
-            Seconds::Refused(why) => why,
-        }
-    }
-}
-
-// The civil time of some seconds, or why there is none.
-#[derive(Clone, Copy)]
-pub enum Fields {
-    Gives(Civil),
-    Refused(Refusal),
-}
-
-impl Fields {
-    // The refusal, to be handed on: `NONE` where there is a civil time.
-    pub fn refusal(self) -> Refusal
-        ensures { result ≡ refusal_in (read_fields self) }
-    {
-        match self {
-            Fields::Gives(_) => Refusal::NONE,
-            Fields::Refused(why) => why,
-        }
-    }
-}
-
 // The seconds of a time of day on the day of a number.
-pub fn seconds_on(number: i32, hour: u64, minute: u64, second: u64) -> Seconds
-    ensures { read_seconds result ≡ seconds_on number hour minute second }
+pub fn seconds_on(number: i32, hour: u64, minute: u64, second: u64) -> Result<i64, Refusal>
+    ensures { answer_of result ≡ seconds_on number hour minute second }
 {
     if 23 < hour {
-        return Seconds::Refused(Refusal::FIELDS);
+        return Err(Refusal::Fields);
     }
     if 59 < minute {
-        return Seconds::Refused(Refusal::FIELDS);
+        return Err(Refusal::Fields);
     }
     if 59 < second {
-        return Seconds::Refused(Refusal::FIELDS);
+        return Err(Refusal::Fields);
     }
     let passed = hour * 3600 + minute * 60 + second;
     let total = number as i64 * 86400 + passed as i64;
     if total < Instant::FIRST {
-        return Seconds::Refused(Refusal::FIELDS);
+        return Err(Refusal::Fields);
     }
     if Instant::LAST < total {
-        return Seconds::Refused(Refusal::FIELDS);
+        return Err(Refusal::Fields);
     }
-    Seconds::Gives(total)
+    Ok(total)
 }
 
 // The civil time of a date and the seconds that have passed of its day.

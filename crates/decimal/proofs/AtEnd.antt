@@ -1,11 +1,10 @@
 -- A text at the end of 20 bytes: zeros stand in front of it, and each byte that is written takes the place of the last
 -- of them. Assumes nothing.
-use Rattle.std.proofs.Common.{◌≡◌, ℕ, ◌+◌, ◌-◌, ◌≤◌, List, ◌∷◌, ◌++◌, length, take, drop, set, replicate, sym, refl, ap, ◌∙◌, arith, length-append, length-set, drop_at}
+use Rattle.std.proofs.Common.{◌≡◌, ℕ, ◌+◌, ◌-◌, ◌≤◌, List, ◌∷◌, ◌++◌, length, drop, set, replicate, sym, refl, ap, ◌∙◌, arith, length-append, length-set, drop_at}
 use lib.ListN.{length-replicate, replicate-append-replicate}
 use lib.Seq.{set_at, append_snoc}
 use Rattle.decimal.specs.declared.write.Text.{Text}
 use Rattle.decimal.specs.Write.{at_end}
-use Rattle.texts.proofs.Tails.{from_on}
 
 -- a byte in front of a text that zeros stand in front of
 last_zero : (k : ℕ) (t : List ℕ) → replicate (k + 1) 0 ++ t ≡ replicate k 0 ++ (0 ∷ t)
@@ -51,11 +50,6 @@ module _ (t : List ℕ) (h : length t ≤ 20) where
   pub lent : {x : Text} → x ≡ at_end t
       → (x ≡ at_end t) × ((drop x.from x.bytes ≡ t) × ((x.from ≤ 20) × (20 ≡ length x.bytes)))
   lent e = rw e (refl, (end_text, (omega (arith, from_at {x = at_end t} t refl), end_length)))
-
--- what `&bytes[from..]` lends, by two of those facts
-pub lends : (x : Text) {t : List ℕ} → drop x.from x.bytes ≡ t → 20 ≡ length x.bytes
-    → take (20 - x.from) (drop x.from x.bytes) ≡ t
-lends x e l = ap (λ (n : ℕ). take (n - x.from) (drop x.from x.bytes)) l ∙ from_on x.bytes x.from ∙ e
 
 -- a byte more in front of such a text
 pub one_more : {x : Text} (v : ℕ) (t : List ℕ) → x ≡ at_end t → length t ≤ 19

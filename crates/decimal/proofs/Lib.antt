@@ -1,5 +1,4 @@
 -- The laws that the proofs cite, and that callers can. Assumes nothing.
-pub mod Signs
 pub mod Reading
 pub mod Writing
 pub mod AtEnd

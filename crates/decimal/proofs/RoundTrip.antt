@@ -1,9 +1,8 @@
 -- Reading what was written gives the number back: each digit that `digits` puts behind a number's others is the one by
 -- which `behind` goes on from it. Assumes nothing.
-use Rattle.std.proofs.Common.{◌≡◌, ℕ, zero, suc, ◌+◌, ◌*◌, ◌/◌, ◌%◌, ◌^◌, ◌<◌, ◌≤◌, List, [], ◌∷◌, ◌++◌, length, get_or, ℤ, pos, negsuc, ap, ◌∙◌, append-nil, arith, w64, SFits, le-ltb}
+use Rattle.std.proofs.Common.{ne_eqb, take, eqb, false, refl, Some, option_and_then, ◌≡◌, ℕ, zero, suc, ◌+◌, ◌*◌, ◌/◌, ◌%◌, ◌^◌, ◌<◌, ◌≤◌, List, [], ◌∷◌, ◌++◌, length, get_or, ℤ, pos, negsuc, ap, ◌∙◌, append-nil, arith, w64, SFits, le-ltb}
+use lib.Pointwise.{pointwise}
 use native.Mathlib.Decide.{dec_lt}
-use Rattle.decimal.specs.declared.read.Natural.TheVariants as natural
-use Rattle.decimal.specs.declared.read.Number.TheVariants as number
 use Rattle.decimal.specs.Read.{behind, natural_of, positive, negative, number_in}
 use Rattle.decimal.specs.Write.{decimal_digits, show_nat, show_int}
 use Rattle.decimal.proofs.Reading.{no_minus}
@@ -43,27 +42,31 @@ filled : (s : List ℕ) → 48 ≤ get_or s 0 0 → 0 < length s
 filled [] h = absurd (omega arith)
 filled (b ∷ bs) h = omega arith
 
+starts : (s : List ℕ) → 48 ≤ get_or s 0 0 → pointwise eqb (take 1 s) (45 ∷ []) ≡ false
+starts [] h = absurd (omega arith)
+starts (b ∷ bs) h = rw (ne_eqb b 45 (λ e. omega arith)) refl
+
 module _ (n : ℕ) (h : n < 10 ^ 19) where
   first_byte : 48 ≤ get_or (show_nat n) 0 0
   unfolding show_nat
   first_byte = rw (← append-nil (decimal_digits 19 n)) (first 18 n [] h)
 
-  read_back : behind 0 (show_nat n) ≡ natural.Is n
+  read_back : behind 0 (show_nat n) ≡ Some n
   unfolding show_nat behind
   read_back = rw (← append-nil (decimal_digits 19 n)) (back 18 n [] h)
 
-  natural_back : natural_of (show_nat n) ≡ natural.Is n
+  natural_back : natural_of (show_nat n) ≡ Some n
   unfolding natural_of
   natural_back =
       simp (le-ltb (length (show_nat n)) 1 (filled (show_nat n) first_byte), le-ltb 19 (length (show_nat n)) (length_show n)) read_back
 
-pub number_back : (z : ℤ) → SFits w64 z → number_in (show_int z) ≡ number.Is z
+pub number_back : (z : ℤ) → SFits w64 z → number_in (show_int z) ≡ Some z
 unfolding show_int number_in positive negative
 number_back (pos n) f =
     let h : n < 10 ^ 19 = omega (arith, f.sfits) in
     let b = first_byte n h in
-    no_minus (show_nat n) (filled (show_nat n) b) (λ e. omega arith) ∙ ap positive (natural_back n h)
+    no_minus (show_nat n) (starts (show_nat n) b) ∙ ap (option_and_then positive) (natural_back n h)
     ∙ simp (le-ltb 9223372036854775807 n (omega (arith, f.sfits)))
 number_back (negsuc n) f =
     let h : suc n < 10 ^ 19 = omega (arith, f.sfits) in
-    ap negative (natural_back (suc n) h) ∙ simp (le-ltb 9223372036854775808 (suc n) (omega (arith, f.sfits)))
+    ap (option_and_then negative) (natural_back (suc n) h) ∙ simp (le-ltb 9223372036854775808 (suc n) (omega (arith, f.sfits)))

@@ -1,7 +1,9 @@
 -- Digits as they are written, from the last: what is left of the number stands in front of the digits that are there.
 -- Assumes nothing.
-use Rattle.std.proofs.Common.{◌≡◌, ℕ, zero, suc, ◌+◌, ◌-◌, ◌/◌, ◌%◌, ◌^◌, ◌<◌, ◌≤◌, Bool, true, false, cond, ltb, List, [], ◌∷◌, ◌++◌, length, ℤ, pos, negsuc, nat_abs, append_assoc, pow-suc, arith, length-append, le-ltb, lt-ltb}
-use lib.Signed.{mag}
+use Rattle.std.proofs.Common.{refl, ◌≡◌, ℕ, zero, suc, ◌+◌, ◌-◌, ◌/◌, ◌%◌, ◌^◌, ◌<◌, ◌≤◌, Bool, true, false, cond, ltb, List, [], ◌∷◌, ◌++◌, length, ℤ, pos, negsuc, nat_abs, append_assoc, pow-suc, arith, length-append, le-ltb, lt-ltb}
+use Rattle.std.proofs.lemmas.Bool.{true≢false}
+use borrow.Author.Tests.{ltb-true}
+use lib.Signed.{lt_z}
 use Rattle.decimal.specs.Write.{decimal_digits, show_nat, show_int}
 
 -- one digit, and the last
@@ -52,13 +54,15 @@ unfolding show_nat
 length_show n = length_digits 19 n
 
 -- a signed number by its sign
-pub show_negative : (z : ℤ) → z ≡ negsuc (mag z) → show_int z ≡ 45 ∷ show_nat (nat_abs z)
+pub show_negative : (z : ℤ) → lt_z z (pos 0) ≡ true → show_int z ≡ 45 ∷ show_nat (nat_abs z)
 unfolding show_int
-show_negative z e = rw e
+show_negative (pos n) e = absurd (omega (arith, ltb-true n 0 e))
+show_negative (negsuc n) e = refl
 
-pub show_natural : (z : ℤ) → z ≡ pos (mag z) → show_int z ≡ show_nat (nat_abs z)
+pub show_natural : (z : ℤ) → lt_z z (pos 0) ≡ false → show_int z ≡ show_nat (nat_abs z)
 unfolding show_int
-show_natural z e = rw e
+show_natural (pos n) e = refl
+show_natural (negsuc n) e = absurd (true≢false e)
 
 pub length_int : (z : ℤ) → length (show_int z) ≤ 20
 unfolding show_int

@@ -5,5 +5,5 @@
 mod read;
 mod write;
 
-pub use read::{Number, number_in};
-pub use write::{Text, text_of};
+pub use read::number_in;
+pub use write::{Text, put_number, text_of};

@@ -2,87 +2,50 @@
 ghost use Rattle.std.specs.Prelude.{◌≡◌};
 ghost use Rattle.decimal.specs.Read.{natural_of, positive, negative, number_in};
 
-use signed::from_bits;
-use std::num::wrapping_sub_u64;
-
-// What a text of digits is.
-#[derive(Drop)]
-enum Natural {
-    Is(u64),
-    Not,
-}
-
-// What a text is.
-#[derive(Clone, Copy)]
-pub enum Number {
-    Is(i64),
-    Not,
-}
-
-// 1 to 19 digits: as many as never pass a u64.
-fn natural_in(text: &[u8]) -> Natural
+// The number that 1 to 19 digits make: as many as never pass a u64.
+#[tactic(auto, using(crate::proofs::Reading::small))]
+fn natural_in(text: &[u8]) -> Option<u64>
     ensures { result ≡ natural_of text.now }
 {
-    let n = text.len();
-    if n < 1 {
-        return Natural::Not;
-    }
-    if 19 < n {
-        return Natural::Not;
+    if text.is_empty() || 19 < text.len() {
+        return None;
     }
     let mut value: u64 = 0;
-    let mut i = 0;
-    while i < n {
-        let b = text[i];
-        if b < b'0' {
-            return Natural::Not;
+    for &b in text {
+        if !b.is_ascii_digit() {
+            return None;
         }
-        if b'9' < b {
-            return Natural::Not;
-        }
-        let digit = (b - b'0') as u64;
+        let digit = u64::from(b - b'0');
         value = value * 10 + digit;
-        i += 1;
     }
-    Natural::Is(value)
+    Some(value)
 }
 
-fn positive_of(n: Natural) -> Number
+// The number of digits without a minus.
+#[tactic(auto, unfolding(crate::specs::Read::positive))]
+fn positive_of(n: u64) -> Option<i64>
     ensures { result ≡ positive n }
 {
-    let Natural::Is(value) = n else {
-        return Number::Not;
-    };
-    if 9223372036854775807 < value {
-        return Number::Not;
-    }
-    let z = value as i64;
-    Number::Is(z)
+    i64::try_from(n).ok()
 }
 
-// The bits of a negative number are 2^64 less its size.
-fn negative_of(n: Natural) -> Number
+// The number of digits behind a minus.
+#[tactic(auto, unfolding(crate::specs::Read::negative))]
+fn negative_of(n: u64) -> Option<i64>
     ensures { result ≡ negative n }
 {
-    let Natural::Is(value) = n else {
-        return Number::Not;
-    };
-    if 9223372036854775808 < value {
-        return Number::Not;
-    }
-    let bits = wrapping_sub_u64(0, value);
-    Number::Is(from_bits(bits))
+    0i64.checked_sub_unsigned(n)
 }
 
 // The number that all of text is: an optional minus, then 1 to 19 digits, and it fits an i64.
-pub fn number_in(text: &[u8]) -> Number
+//
+// Kept: by hand: what may not change: `number_in` (specs/Read) refuses a plus and a twentieth digit, which `parse` takes.
+#[tactic(auto, using(crate::proofs::Reading::minus, crate::proofs::Reading::no_minus))]
+pub fn number_in(text: &[u8]) -> Option<i64>
     ensures { result ≡ number_in text.now }
 {
-    if text.len() == 0 {
-        return Number::Not;
+    match text.strip_prefix(b"-") {
+        Some(digits) => negative_of(natural_in(digits)?),
+        None => positive_of(natural_in(text)?),
     }
-    if text[0] == b'-' {
-        return negative_of(natural_in(&text[1..]));
-    }
-    positive_of(natural_in(text))
 }

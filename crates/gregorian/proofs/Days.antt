@@ -14,8 +14,7 @@ use Rattle.signed.proofs.Tests.{le_z_le, and_left, and_right}
 use Rattle.month_lengths.specs.Lengths.{leap, months, days_of_months, year_days, year_at}
 use Rattle.gregorian.specs.Gregorian.{years_to, days_of_years, days_to, day_number, epoch_day}
 use Rattle.gregorian.specs.Dates.{good_year, good_day_number, years_in, months_in, date_in_year, date_in, date_at}
-use Rattle.gregorian.specs.Answers.{day_for}
-use Rattle.gregorian.specs.Parts.{InMonth, InYear, day_in_year}
+use Rattle.gregorian.specs.Parts.{InMonth, InYear}
 use Rattle.gregorian.proofs.YearSums.{closed_is, no_years, years_suc, all_years}
 use Rattle.gregorian.proofs.MonthSums.{no_months, months_suc}
 use Rattle.gregorian.proofs.Wholes.{whole}
@@ -40,10 +39,6 @@ leap_back y g e = ap leap (ap year_at e ∙ year_back y g)
 
 pub years_most : (y : ℤ) → good_year y ≡ true → years_to y < 20000
 years_most y g = omega (arith, raised_high 10000 y (year_low y g) (omega arith) (year_high y g))
-
--- the count as the machine makes it
-pub raises_year : {y : ℤ} → SFits w64 y → good_year y ≡ true → Raises 10000 y
-raises_year {y} f g = raises 10000 f (year_low y g) (omega arith) (omega (arith, years_most y g))
 
 -- ---- day numbers
 
@@ -79,9 +74,6 @@ days_most z g = omega (arith, all_years, raised_high epoch_day z (day_low z g) (
 -- the same of days
 pub raises_day : {z : ℤ} → SFits w64 z → good_day_number z ≡ true → Raises epoch_day z
 raises_day {z} f g = raises epoch_day f (day_low z g) (omega arith) (omega (arith, all_years, days_most z g))
-
-pub day_for_lem : (y : ℤ) (n m d : ℕ) → good_year y ≡ true → n ≡ years_to y → day_in_year (year_at n) m d ≡ day_for y m d
-day_for_lem y n m d g e = rw g (ap (λ z. day_in_year z m d) (ap year_at e ∙ year_back y g))
 
 -- ---- the date of a day
 

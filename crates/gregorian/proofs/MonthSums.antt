@@ -8,7 +8,6 @@ use native.Mathlib.Numerals.{add-one}
 use native.Mathlib.Decide.{dec_lt}
 use lib.Dec.{T, leb, eqb, leb→le, eqb→eq}
 use lib.ListN.{get_or}
-use borrow.Author.Tests.{lt-ltb, le-ltb}
 use Rattle.month_lengths.specs.Lengths.{months, days_of_months}
 use Rattle.month_lengths.proofs.Months.{each, first, other, at}
 use Rattle.gregorian.specs.Parts.{lacking_of, InMonth}
@@ -42,14 +41,6 @@ sums false = tt
 
 pub closed_is : (b : Bool) (k : ℕ) → k ≤ 12 → days_of_months b k ≡ closed b k
 closed_is b k h = eqb→eq (days_of_months b k) (closed b k) (at (λ j. eqb (days_of_months b j) (closed b j)) 13 (sums b) k (omega arith))
-
-pub lacking_most : (b : Bool) (k : ℕ) → lacking_of b k ≤ k
-lacking_most b k = go (dec_lt k 2) b
-  where
-    go : Dec (k < 2) → (b : Bool) → lacking_of b k ≤ k
-    go (yes h) b = rw (lt-ltb k 2 h) (omega arith)
-    go (no h) true = rw (le-ltb k 2 (omega arith)) (omega arith)
-    go (no h) false = rw (le-ltb k 2 (omega arith)) (omega arith)
 
 pub months_most : (b : Bool) (k : ℕ) → k ≤ 12 → days_of_months b k ≤ 400
 months_most b k h = omega (arith, closed_is b k h)

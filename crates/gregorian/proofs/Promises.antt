@@ -4,19 +4,12 @@ use mathlib.Core.Bool.{Bool, true, false}
 use Prim.Native.Nat.{ℕ, ◌+◌, ◌-◌}
 use native.Mathlib.Omega.{arith}
 use lib.IntN.{ℤ, pos, sub_ℕ, ◌+ℤ◌}
-use Rattle.refusal.specs.Answers.{refused}
-use Rattle.refusal.proofs.Answers.{only, same_refusal}
 use Rattle.signed.proofs.Differences.{minus, plus, lower, raised, raised_low, raised_back, low, high}
 use Rattle.signed.proofs.Tests.{le_le_z}
 use Rattle.month_lengths.specs.Lengths.{leap, month_length, days_of_months, year_days, year_at}
 use Rattle.gregorian.specs.Gregorian.{years_to, days_to, day_number, epoch_day}
 use Rattle.gregorian.specs.Dates.{date_in, date_at}
-use Rattle.gregorian.specs.Promises.{EpochDay, DayZero, NextDay, NextMonth, NextYear, YearLengths, DayOfItsDate, DateOfItsDay, OneAnswer}
-use Rattle.gregorian.specs.Answers.{read_day, read_dated}
-use Rattle.gregorian.specs.declared.dates.Day.{Day}
-use Rattle.gregorian.specs.declared.dates.Day.TheVariants as day
-use Rattle.gregorian.specs.declared.dates.Dated.{Dated}
-use Rattle.gregorian.specs.declared.dates.Dated.TheVariants as dated
+use Rattle.gregorian.specs.Promises.{EpochDay, DayZero, NextDay, NextMonth, NextYear, YearLengths, DayOfItsDate, DateOfItsDay}
 use Rattle.gregorian.proofs.YearSums.{closed_is, years_step, all_years, row_days}
 use Rattle.gregorian.proofs.MonthSums.{no_months, months_step}
 use Rattle.gregorian.proofs.Days.{year_back, epoch, number, days_in_year, first_day, last_day, day_low, days_most}
@@ -87,20 +80,3 @@ date_of_its_day y m d g =
       rw (first_day, last_day, e, le_le_z (low 4371586 t epoch_day (omega (arith, closed_is 1, its_days_low y m d g)))) (le_le_z (high 2932896 t epoch_day (omega (arith, all_years, its_days_high y m d g)))),
       rw (epoch, e, raised_back epoch_day t) (date_trip y m d g),
     )
-
--- ---- one answer
-
-told_day : (a b : Day) → read_day a ≡ read_day b → a ≡ b
-told_day (day.Gives m) (day.Gives n) e = ap day.Gives cc
-told_day (day.Gives m) (day.Refused w) e = cc
-told_day (day.Refused v) (day.Gives n) e = cc
-told_day (day.Refused v) (day.Refused w) e = ap day.Refused (same_refusal v w (refused v.number) refl e)
-
-told_dated : (a b : Dated) → read_dated a ≡ read_dated b → a ≡ b
-told_dated (dated.Gives c) (dated.Gives d) e = ap dated.Gives cc
-told_dated (dated.Gives c) (dated.Refused w) e = cc
-told_dated (dated.Refused v) (dated.Gives d) e = cc
-told_dated (dated.Refused v) (dated.Refused w) e = ap dated.Refused (same_refusal v w (refused v.number) refl e)
-
-pub one_answer : OneAnswer
-one_answer = (λ x a b p q. only read_day told_day x a b p q, λ x a b p q. only read_dated told_dated x a b p q)

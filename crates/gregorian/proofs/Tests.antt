@@ -9,19 +9,10 @@ use borrow.Author.Tests.{le-leb, lt-leb}
 use Rattle.signed.proofs.Tests.{ge_le_z, lt_le_z, and_false}
 use Rattle.month_lengths.specs.Lengths.{month_length}
 use Rattle.gregorian.specs.Gregorian.{day_number}
-use Rattle.gregorian.specs.Dates.{good_year, good_month_day, good_day_number}
+use Rattle.gregorian.specs.Dates.{good_month_day, good_day_number}
 use Rattle.gregorian.proofs.Days.{first_day, last_day}
 
 -- ---- a year
-
-pub year_early : (y : ℤ) → lt_z y (negsuc 9998) ≡ true → good_year y ≡ false
-year_early y h = rw (lt_le_z y (negsuc 9998) h)
-
-pub year_late : (y : ℤ) → lt_z (pos 9999) y ≡ true → good_year y ≡ false
-year_late y h = rw (lt_le_z (pos 9999) y h) (and_false (le_z (negsuc 9998) y))
-
-pub year_good : (y : ℤ) → lt_z y (negsuc 9998) ≡ false → lt_z (pos 9999) y ≡ false → good_year y ≡ true
-year_good y l h = rw (ge_le_z y (negsuc 9998) l) (ge_le_z (pos 9999) y h)
 
 -- ---- a month and a day of it
 

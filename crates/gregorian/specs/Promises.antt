@@ -1,13 +1,8 @@
 -- What holds of dates and day numbers. Each is proved in proofs/Promises.antt.
 use Rattle.std.specs.Prelude.{◌≡◌, true, ℕ, ◌+◌, ◌≤◌, ℤ, pos, ◌+ℤ◌}
-use Rattle.refusal.specs.Answers.{Answer}
 use Rattle.month_lengths.specs.Lengths.{leap, month_length, year_days}
 use Rattle.gregorian.specs.Gregorian.{days_to, epoch_day, day_number}
 use Rattle.gregorian.specs.Dates.{good_year, good_date, good_day_number, date_at}
-use Rattle.gregorian.specs.Answers.{read_day, read_dated}
-use Rattle.gregorian.specs.declared.dates.Date.{Date}
-use Rattle.gregorian.specs.declared.dates.Day.{Day}
-use Rattle.gregorian.specs.declared.dates.Dated.{Dated}
 
 -- ---- the definition of the day number, at sight
 
@@ -46,11 +41,3 @@ DayOfItsDate = (z : ℤ) → good_day_number z ≡ true →
 abbrev pub DateOfItsDay : Type 0
 DateOfItsDay = (y : ℤ) (m d : ℕ) → good_date y m d ≡ true →
     (good_day_number (day_number y m d) ≡ true) × (date_at (day_number y m d) ≡ record { year = y; month = m; day = d })
-
--- ---- one answer
-
--- whatever a definition says, all that a contract allows as its reading is equal
-abbrev pub OneAnswer : Type 0
-OneAnswer =
-    ((x : Answer ℤ) (a b : Day) → read_day a ≡ x → read_day b ≡ x → a ≡ b)
-    × ((x : Answer Date) (a b : Dated) → read_dated a ≡ x → read_dated b ≡ x → a ≡ b)

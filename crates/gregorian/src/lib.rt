@@ -7,6 +7,8 @@
 
 mod dates;
 mod months;
+mod passed;
 mod years;
 
-pub use dates::{Date, Dated, Day, EPOCH_DAY, date_of, day_of};
+pub use dates::{Date, EPOCH_DAY, date_of, day_of};
+pub use passed::Passed;

@@ -1,20 +1,8 @@
--- How the answers about an instant are read: a value, or a number of the list of refusals.
+-- Answers about an instant: a value, or a number of the list of refusals.
 use Rattle.std.specs.Prelude.{if◌then◌else◌, ℕ, nat_le, ℤ}
-use Rattle.refusal.specs.Answers.{Answer, gives, refused, refused_by}
+use Rattle.refusal.specs.Answers.{Answer, gives, refused}
 use Rattle.instant.specs.Instants.{at}
 use Rattle.instant.specs.declared.instants.Instant.{Instant}
-use Rattle.instant.specs.declared.answers.Decoded.{Decoded}
-use Rattle.instant.specs.declared.answers.Decoded.TheVariants as decoded
-use Rattle.instant.specs.declared.answers.Encoded.{Encoded}
-use Rattle.instant.specs.declared.answers.Encoded.TheVariants as encoded
-
-abbrev pub read_decoded : Decoded → Answer Instant
-read_decoded (decoded.Gives t) = gives t
-read_decoded (decoded.Refused why) = refused_by why
-
-abbrev pub read_encoded : Encoded → Answer ℤ
-read_encoded (encoded.Gives w) = gives w
-read_encoded (encoded.Refused why) = refused_by why
 
 -- the instant of seconds, which may be refused, and n nanoseconds
 abbrev pub at_nanos : ℕ → Answer ℤ → Answer Instant

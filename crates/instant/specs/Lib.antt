@@ -1,4 +1,3 @@
 pub mod Instants
 pub mod Answers
 pub mod Ranges
-pub mod Promises

@@ -3,7 +3,7 @@ ghost use Rattle.std.specs.Prelude.{◌≡◌};
 ghost use Rattle.instant.specs.Instants.{at, is_before};
 
 // Seconds since 1970-01-01 UTC, and nanoseconds counted forwards: half a second before 1970 is -1 and 500,000,000.
-#[derive(Clone, Copy)]
+#[derive(Clone, Copy, Debug, PartialEq, Eq, PartialOrd, Ord)]
 pub struct Instant {
     pub seconds: i64,
     pub nanos: u32,
@@ -42,14 +42,6 @@ impl Instant {
     pub fn is_before(self, other: Instant) -> bool
         ensures { result ≡ is_before self other }
     {
-        let a = self.seconds;
-        let b = other.seconds;
-        if a < b {
-            return true;
-        }
-        if b < a {
-            return false;
-        }
-        self.nanos < other.nanos
+        self < other
     }
 }

@@ -124,10 +124,6 @@ layout_for SemiOctet = semi_octet
 layout_for Gsm = gsm
 
 -- the two rows of decimal pairs, by whether their digits are swapped
-abbrev pub pairs : Bool → Digits
-pairs false = Pairs
-pairs true = SwappedPairs
-
 abbrev pub pair_layout : Bool → Layout
 pair_layout false = bcd
 pair_layout true = semi_octet

@@ -10,7 +10,7 @@ use crate::layouts::{
 };
 
 // The layouts 1 to 14, in the order of their numbers.
-#[derive(Clone, Copy)]
+#[derive(Clone, Copy, Debug, PartialEq, Eq)]
 pub enum Kind {
     FatDos,
     ExFat,
@@ -29,6 +29,8 @@ pub enum Kind {
 }
 
 // The description of a kind.
+//
+// Kept: an arm for each kind: `read_kind` of `unpacking` says why.
 pub fn layout_of(kind: Kind) -> Layout
     ensures { result ≡ layout_for kind }
 {

@@ -7,7 +7,7 @@ ghost use Rattle.layouts.specs.Layouts.{pair_layout};
 use byte_orders::Order;
 
 // How the number that is stored in a field gives the field's value, before its offset and step.
-#[derive(Clone, Copy)]
+#[derive(Clone, Copy, Debug, PartialEq, Eq)]
 pub enum Digits {
     // The number itself. Places and widths are in bits.
     Bits,
@@ -20,7 +20,7 @@ pub enum Digits {
 }
 
 // `width` places from `place` on. The field's value is `offset` and `step` times what is stored.
-#[derive(Clone, Copy)]
+#[derive(Clone, Copy, Debug, PartialEq, Eq)]
 pub struct Field {
     pub place: u32,
     pub width: u32,
@@ -28,11 +28,11 @@ pub struct Field {
     pub step: u64,
 }
 
-#[derive(Clone, Copy)]
+#[derive(Clone, Copy, Debug, PartialEq, Eq)]
 pub struct Layout {
     pub digits: Digits,
     pub order: Order,
-    // Whether the low byte is a zone.
+    // Whether the low byte is a zone. (Kept: a flag: an enum of two is no plainer.)
     pub zoned: bool,
     // A word's bits, once in order, are below this.
     pub words: u64,
@@ -618,8 +618,9 @@ pub const GSM: Layout = Layout {
     },
 };
 
-// The two layouts of decimal pairs, which differ in the order of the digits alone. Where one of them is taken by a test, all
-// that they share is still a constant for the compiler; handed over from outside, it would not be.
+// The two layouts of decimal pairs, which differ in the order of the digits alone.
+//
+// Kept: a flag, since it is a call that stands (docs/CONTRACTS.md).
 pub fn pair_layout(swapped: bool) -> Layout
     ensures { result ≡ pair_layout swapped }
 {

@@ -1,6 +1,6 @@
 -- A search for the first LF: what was passed is held, and what is left settles the rest. Assumes nothing.
 use Prim.Native.Nat.{ℕ, suc, ◌+◌, ◌≤◌, ◌<◌}
-use mathlib.Core.Path.{◌≡◌, refl, sym, ◌∙◌}
+use mathlib.Core.Path.{◌≡◌, sym, ◌∙◌}
 use mathlib.Core.Bool.{true, false}
 use mathlib.Core.List.{List}
 use native.Mathlib.Omega.{arith}
@@ -51,45 +51,39 @@ module _ (h : Kept) (s : List ℕ) (i : ℕ) where
   unfolding up_to_lf before_lf has_lf
   up_end l = rw (drop_of_length-le s l)
 
--- bytes from index `from` to i of a block were taken, and none of them is an LF
-module _ (h : Kept) (block : List ℕ) (from : ℕ) where
+-- the first i bytes of the rest of a block were taken, and none of them is an LF
+module _ (h : Kept) (rest : List ℕ) where
   pub record Taking (bytes : List ℕ) (n i : ℕ) : Type 0 where
-    pub wide : length bytes ≡ length h.bytes
-    pub keeps : kept_all h (before_lf (drop from block)) ≡ kept_all (holds bytes n) (before_lf (drop i block))
-    pub has : has_lf (drop from block) ≡ has_lf (drop i block)
-    pub next : from + up_to_lf (drop from block) ≡ i + up_to_lf (drop i block)
+    pub keeps : kept_all h (before_lf rest) ≡ kept_all (holds bytes n) (before_lf (drop i rest))
+    pub has : has_lf rest ≡ has_lf (drop i rest)
+    pub next : up_to_lf rest ≡ i + up_to_lf (drop i rest)
 
   module _ {bytes : List ℕ} {n i : ℕ} (d : Taking bytes n i) where
-    pub take_more : {bytes' : List ℕ} {n' : ℕ} → i < length block → (get_or block i 0 ≡ 10 → ⊥)
-        → n' ≡ (kept (holds bytes n) (get_or block i 0)).count → bytes' ≡ (kept (holds bytes n) (get_or block i 0)).bytes
-        → length bytes' ≡ length bytes → Taking bytes' n' (i + 1)
-    take_more l g count more same =
+    pub take_more : {bytes' : List ℕ} {n' : ℕ} → i < length rest → (get_or rest i 0 ≡ 10 → ⊥)
+        → n' ≡ (kept (holds bytes n) (get_or rest i 0)).count → bytes' ≡ (kept (holds bytes n) (get_or rest i 0)).bytes
+        → Taking bytes' n' (i + 1)
+    take_more l g count more =
         record {
-          wide = same ∙ d.wide;
           keeps =
-              d.keeps ∙ keeps_more (holds bytes n) block i l g
-              ∙ (λ j. kept_all (record { bytes = sym more j; count = sym count j }) (before_lf (drop (i + 1) block)));
-          has = d.has ∙ has_more (holds bytes n) block i l g;
-          next = omega (arith, d.next, up_more (holds bytes n) block i l g);
+              d.keeps ∙ keeps_more (holds bytes n) rest i l g
+              ∙ (λ j. kept_all (record { bytes = sym more j; count = sym count j }) (before_lf (drop (i + 1) rest)));
+          has = d.has ∙ has_more (holds bytes n) rest i l g;
+          next = omega (arith, d.next, up_more (holds bytes n) rest i l g);
         }
 
-    pub take_here : i < length block → get_or block i 0 ≡ 10
-        → Takes h (drop from block) from (record { held = n; next = i + 1; whole = true }) bytes
-    take_here l e =
+    pub take_here : (from : ℕ) → i < length rest → get_or rest i 0 ≡ 10
+        → Takes h rest from (record { held = n; next = from + i + 1; whole = true }) bytes
+    take_here from l e =
         record {
-          keeps = sym (d.keeps ∙ keeps_here (holds bytes n) block i l e);
-          next = omega (arith, d.next, up_here (holds bytes n) block i l e);
-          whole = sym (d.has ∙ has_here (holds bytes n) block i l e);
+          keeps = sym (d.keeps ∙ keeps_here (holds bytes n) rest i l e);
+          next = omega (arith, d.next, up_here (holds bytes n) rest i l e);
+          whole = sym (d.has ∙ has_here (holds bytes n) rest i l e);
         }
 
-    pub take_end : length block ≤ i → Takes h (drop from block) from (record { held = n; next = i; whole = false }) bytes
-    take_end l =
+    pub take_end : (from : ℕ) → i ≡ length rest → Takes h rest from (record { held = n; next = from + length rest; whole = false }) bytes
+    take_end from l =
         record {
-          keeps = sym (d.keeps ∙ keeps_end (holds bytes n) block i l);
-          next = omega (arith, d.next, up_end (holds bytes n) block i l);
-          whole = sym (d.has ∙ has_end (holds bytes n) block i l);
+          keeps = sym (d.keeps ∙ keeps_end (holds bytes n) rest i (omega arith));
+          next = omega (arith, d.next, up_end (holds bytes n) rest i (omega arith));
+          whole = sym (d.has ∙ has_end (holds bytes n) rest i (omega arith));
         }
-
--- before the first byte
-pub take_start : (bytes : List ℕ) (n : ℕ) (block : List ℕ) (from : ℕ) → Taking (holds bytes n) block from bytes n from
-take_start bytes n block from = record { wide = refl; keeps = refl; has = refl; next = refl }

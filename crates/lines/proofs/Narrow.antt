@@ -1,17 +1,12 @@
 -- A number that 32 bits hold, told by its 64 bits: those of a negative number are 2^63 or more. Assumes nothing.
-use Prim.Native.Nat.{ℕ, ◌≤◌, ◌<◌}
-use mathlib.Core.Path.{◌≡◌, refl}
+use Prim.Native.Nat.{ℕ, ◌≤◌}
+use mathlib.Core.Path.{◌≡◌}
 use native.Mathlib.Omega.{arith}
-use borrow.Author.Tests.{lt-ltb, le-ltb}
+use borrow.Author.Tests.{le-ltb}
 use lib.IntN.{ℤ, pos, negsuc}
 use mir.Syntax.{w64}
 use mir.Val.{SFits, of_z}
 use Rattle.lines.specs.Questions.{narrowed}
-
-pub too_wide : (z : ℤ) (other : ℕ) → 4294967295 < of_z w64 z → other ≡ narrowed z other
-unfolding narrowed
-too_wide (pos n) other h = simp (lt-ltb 4294967295 n h)
-too_wide (negsuc n) other h = refl
 
 pub held : (z : ℤ) (other : ℕ) → SFits w64 z → of_z w64 z ≤ 4294967295 → of_z w64 z ≡ narrowed z other
 unfolding narrowed

@@ -9,13 +9,14 @@ use borrow.Author.Tests.{le-leb, lt-leb}
 use lib.Dec.{leb}
 use lib.IntN.{ℤ, pos}
 use lib.ListN.{length, length-append, take-append-drop}
+use Rattle.std.specs.Prelude.{Option, Some, None}
 use Rattle.refusal.specs.Answers.{Answer, gives, refused}
 use Rattle.instant.specs.declared.instants.Instant.{Instant}
 use Rattle.texts.specs.Buffer.{Written, written}
 use Rattle.texts.proofs.Putting.{fits, follows}
 use Rattle.decimal.proofs.Writing.{length_int}
 use Rattle.lines.specs.Questions.{question_of}
-use Rattle.lines.specs.Answers.{bad_line, refused_text, instant_text, decoded_text, encoded_text, answer_text, line_text, in_room}
+use Rattle.lines.specs.Answers.{bad_line, refused_text, instant_text, decoded_text, encoded_text, answer_text, asked_text, line_text, in_room}
 use Rattle.lines.specs.declared.questions.Question.{Question}
 use Rattle.lines.specs.declared.questions.Question.TheVariants as question
 
@@ -65,21 +66,23 @@ length_instant t =
     simp length-append (omega (arith, length_int t.seconds, length_int (pos t.nanos)))
 
 length_decoded : (a : Answer Instant) → length (decoded_text a) ≤ 41
-unfolding decoded_text
 length_decoded (gives t) = length_instant t
 length_decoded (refused n) = omega (arith, length_refused n)
 
 length_encoded : (a : Answer ℤ) → length (encoded_text a) ≤ 41
-unfolding encoded_text
 length_encoded (gives word) = omega (arith, length_int word)
 length_encoded (refused n) = omega (arith, length_refused n)
 
 pub length_answer : (q : Question) → length (answer_text q) ≤ 41
-unfolding answer_text bad_line
+unfolding answer_text
 length_answer (question.Decode layout word) = length_decoded _
 length_answer (question.Encode layout seconds nanos) = length_encoded _
-length_answer question.Bad = omega arith
+
+pub length_asked : (asked : Option Question) → length (asked_text asked) ≤ 41
+unfolding asked_text bad_line
+length_asked (Some q) = length_answer q
+length_asked None = omega arith
 
 pub length_line : (line : List ℕ) → length (line_text line) ≤ 42
 unfolding line_text
-length_line line = simp length-append (omega (arith, length_answer (question_of line)))
+length_line line = simp length-append (omega (arith, length_asked (question_of line)))

@@ -1,17 +1,19 @@
 // The text of an answer, put into a buffer. A function that puts several texts requires the room that every answer has.
-ghost use Rattle.std.specs.Prelude.{◌≡◌, ◌+◌, ◌≤◌, length};
-ghost use Rattle.instant.specs.Answers.{read_encoded, read_decoded};
+//
+// Kept: a buffer, an index and their room beside each other: a struct is no plainer, since each call of `texts::put` takes it
+// apart.
+ghost use Rattle.std.specs.Prelude.{◌≡◌, ℕ, ◌+◌, ◌≤◌, List, length};
+ghost use Rattle.refusal.specs.Answers.{number_of, answer_of};
 ghost use Rattle.decimal.specs.Write.{show_int};
 ghost use Rattle.texts.specs.Buffer.{written};
 ghost use Rattle.lines.specs.Questions.{narrowed};
-ghost use Rattle.lines.specs.Answers.{bad_line, refused_text, instant_text, decoded_text, encoded_text, answer_text, in_room, line_text};
+ghost use Rattle.lines.specs.Answers.{bad_line, refused_text, instant_text, given_text, answer_text, asked_text, in_room, line_text};
 
 use crate::questions::{Question, question_in};
-use decimal::text_of;
+use decimal::put_number;
 use instant::Instant;
 use refusal::Refusal;
-use registry::{Decoded, Encoded, decode, encode};
-use signed::to_bits;
+use registry::{decode, encode};
 use texts::put;
 
 // The room that every answer has, its LF too.
@@ -22,29 +24,19 @@ const NO_LAYOUT: u32 = 0;
 
 const NO_NANOS: u32 = 4294967295;
 
-// z where a u32 holds it, and `other` where not: the bits of a negative number are 2^63 or more.
+// z where a u32 holds it, and `other` where not.
+//
+// Kept: numbers that stand for others: what may not change: `narrowed` (specs/Questions) hands them on, and the codec refuses
+// them.
+#[tactic(auto, unfolding(crate::specs::Questions::narrowed))]
 fn narrow(z: i64, other: u32) -> u32
     ensures { result ≡ narrowed z other }
 {
-    let bits = to_bits(z);
-    if 4294967295 < bits {
-        return other;
-    }
-    bits as u32
-}
-
-// z in decimal.
-fn put_number(out: &mut [u8], at: usize, z: i64) -> usize
-    ensures value { result ≡ (written out.old at (show_int z)).next }
-    ensures out_after { out.new ≡ (written out.old at (show_int z)).bytes }
-{
-    let text = text_of(z);
-    let bytes = text.bytes;
-    let from = text.from;
-    put(out, at, &bytes[from..])
+    u32::try_from(z).unwrap_or(other)
 }
 
 // The answer to a line that asks nothing.
+#[tactic(auto, unfolding(crate::specs::Answers::bad_line))]
 fn put_bad_line(out: &mut [u8], at: usize) -> usize
     ensures value { result ≡ (written out.old at bad_line).next }
     ensures out_after { out.new ≡ (written out.old at bad_line).bytes }
@@ -55,70 +47,91 @@ fn put_bad_line(out: &mut [u8], at: usize) -> usize
 // A refusal, by its number.
 fn put_refused(out: &mut [u8], at: usize, why: Refusal) -> usize
     requires { at + 48 ≤ length out.old }
-    ensures value { result ≡ (written out.old at (refused_text why.number)).next }
-    ensures out_after { out.new ≡ (written out.old at (refused_text why.number)).bytes }
+    ensures value { result ≡ (written out.old at (refused_text (number_of why))).next }
+    ensures out_after { out.new ≡ (written out.old at (refused_text (number_of why))).bytes }
 {
     let to = put(out, at, b"refused ");
-    put_number(out, to, why.number as i64)
+    put_number(out, to, why.number() as i64)
 }
 
-// Seconds and nanoseconds.
-fn put_instant(out: &mut [u8], at: usize, instant: Instant) -> usize
-    requires { at + 48 ≤ length out.old }
-    ensures value { result ≡ (written out.old at (instant_text instant)).next }
-    ensures out_after { out.new ≡ (written out.old at (instant_text instant)).bytes }
-{
-    let space = put_number(out, at, instant.seconds);
-    let nanos = put(out, space, b" ");
-    put_number(out, nanos, instant.nanos as i64)
+// What a call gives where it does not refuse. (Kept: `replay` has a trait and texts of its own, and says why.)
+trait Given {
+    ghost text: { Self → List ℕ };
+
+    // Its text.
+    fn put(self, out: &mut [u8], at: usize) -> usize
+        requires { at + 48 ≤ length out.old }
+        ensures value { result ≡ (written out.old at (text self)).next }
+        ensures out_after { out.new ≡ (written out.old at (text self)).bytes };
 }
 
-// What a word says.
-fn put_decoded(out: &mut [u8], at: usize, answer: Decoded) -> usize
-    requires { at + 48 ≤ length out.old }
-    ensures value { result ≡ (written out.old at (decoded_text (read_decoded answer))).next }
-    ensures out_after { out.new ≡ (written out.old at (decoded_text (read_decoded answer))).bytes }
-{
-    match answer {
-        Decoded::Gives(instant) => put_instant(out, at, instant),
-        Decoded::Refused(why) => put_refused(out, at, why),
+// A word.
+impl Given for i64 {
+    ghost text = { show_int };
+
+    fn put(self, out: &mut [u8], at: usize) -> usize {
+        put_number(out, at, self)
     }
 }
 
-// The word of an instant.
-fn put_encoded(out: &mut [u8], at: usize, answer: Encoded) -> usize
+// Seconds and nanoseconds.
+impl Given for Instant {
+    ghost text = { instant_text };
+
+    fn put(self, out: &mut [u8], at: usize) -> usize {
+        let space = put_number(out, at, self.seconds);
+        let nanos = put(out, space, b" ");
+        put_number(out, nanos, self.nanos as i64)
+    }
+}
+
+// What a call answered.
+fn put_result<T: Given>(out: &mut [u8], at: usize, answer: Result<T, Refusal>) -> usize
     requires { at + 48 ≤ length out.old }
-    ensures value { result ≡ (written out.old at (encoded_text (read_encoded answer))).next }
-    ensures out_after { out.new ≡ (written out.old at (encoded_text (read_encoded answer))).bytes }
+    ensures value { result ≡ (written out.old at (given_text T.text (answer_of answer))).next }
+    ensures out_after { out.new ≡ (written out.old at (given_text T.text (answer_of answer))).bytes }
 {
     match answer {
-        Encoded::Gives(word) => put_number(out, at, word),
-        Encoded::Refused(why) => put_refused(out, at, why),
+        Ok(given) => given.put(out, at),
+        Err(why) => put_refused(out, at, why),
     }
 }
 
 // The answer to a question, without an LF.
+#[tactic(auto, unfolding(crate::specs::Answers::answer_text))]
 fn put_answer(out: &mut [u8], at: usize, question: Question) -> usize
     requires { at + 48 ≤ length out.old }
     ensures value { result ≡ (written out.old at (answer_text question)).next }
     ensures out_after { out.new ≡ (written out.old at (answer_text question)).bytes }
 {
     match question {
-        Question::Decode(layout, word) => put_decoded(
-            out,
-            at,
-            decode(narrow(layout, NO_LAYOUT), word),
-        ),
-        Question::Encode(layout, seconds, nanos) => {
-            let instant = Instant::new(seconds, narrow(nanos, NO_NANOS));
-            put_encoded(out, at, encode(narrow(layout, NO_LAYOUT), instant))
+        Question::Decode(layout, word) => {
+            let layout = narrow(layout, NO_LAYOUT);
+            put_result(out, at, decode(layout, word))
         }
-        Question::Bad => put_bad_line(out, at),
+        Question::Encode(layout, seconds, nanos) => {
+            let layout = narrow(layout, NO_LAYOUT);
+            let instant = Instant::new(seconds, narrow(nanos, NO_NANOS));
+            put_result(out, at, encode(layout, instant))
+        }
+    }
+}
+
+// The answer to a line that asks something, or to one that does not.
+#[tactic(auto, unfolding(crate::specs::Answers::asked_text))]
+fn put_asked(out: &mut [u8], at: usize, asked: Option<Question>) -> usize
+    requires { at + 48 ≤ length out.old }
+    ensures value { result ≡ (written out.old at (asked_text asked)).next }
+    ensures out_after { out.new ≡ (written out.old at (asked_text asked)).bytes }
+{
+    match asked {
+        Some(question) => put_answer(out, at, question),
+        None => put_bad_line(out, at),
     }
 }
 
 // Puts the answer to a line, which is without its LF, into out from index `at` on, and answers the index behind it. Where
-// there is less room than every answer has, out stays as it is and the answer is `at`.
+// there is less room than every answer has, out stays as it is and the answer is `at`. (Kept: what may not change: `in_room`.)
 pub fn answer_line(line: &[u8], out: &mut [u8], at: usize) -> usize
     ensures value { result ≡ (in_room out.old at (line_text line.now)).next }
     ensures out_after { out.new ≡ (in_room out.old at (line_text line.now)).bytes }
@@ -129,6 +142,6 @@ pub fn answer_line(line: &[u8], out: &mut [u8], at: usize) -> usize
     if out.len() - at < ROOM {
         return at;
     }
-    let end = put_answer(out, at, question_in(line));
+    let end = put_asked(out, at, question_in(line));
     put(out, end, b"\n")
 }

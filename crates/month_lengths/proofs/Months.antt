@@ -1,13 +1,11 @@
 -- The months' lengths. What holds of each month of each row is one test that is computed over the row.
-use mathlib.Core.Path.{◌≡◌, refl}
+use mathlib.Core.Path.{◌≡◌}
 use mathlib.Core.Bool.{Bool, true, false, ◌&&◌}
-use mathlib.Core.List.{[], ◌∷◌}
 use Prim.Native.Nat.{ℕ, zero, suc, ◌<◌, ◌≤◌}
 use native.Mathlib.Omega.{arith}
 use native.Mathlib.Decide.{dec_lt}
 use lib.Dec.{T, leb, leb→le}
-use lib.ListN.{get_or, get_or-eq_default}
-use mir.Val.{bool_byte}
+use lib.ListN.{get_or}
 use Rattle.month_lengths.specs.Lengths.{months}
 
 -- a test of the numbers below n
@@ -38,17 +36,3 @@ short false = tt
 
 pub month_most : (b : Bool) (k : ℕ) → k < 12 → get_or (months b) k 0 ≤ 31
 month_most b k h = leb→le (get_or (months b) k 0) 31 (at (λ j. leb (get_or (months b) j 0) 31) 12 (short b) k h)
-
--- a month that no year has has no days
-pub no_month : (b : Bool) (k : ℕ) → 12 ≤ k → get_or (months b) k 0 ≡ 0
-no_month true k h = get_or-eq_default (months true) 0 h
-no_month false k h = get_or-eq_default (months false) 0 h
-
--- the row of the code's table
-pub byte_most : (b : Bool) → bool_byte b < 2
-byte_most true = omega arith
-byte_most false = omega arith
-
-pub row_is : (b : Bool) (k : ℕ) → get_or (get_or (months false ∷ (months true ∷ [])) (bool_byte b) []) k 0 ≡ get_or (months b) k 0
-row_is true k = refl
-row_is false k = refl

@@ -13,6 +13,7 @@ const MONTHS: [[u8; 12]; 2] = [
 ];
 
 // Whether a year is leap. Of the years that 100 divides, 16 divides just those that 400 divides.
+#[tactic(auto, using(crate::proofs::Leap::leap_century, crate::proofs::Leap::leap_other))]
 pub fn is_leap(years: u64) -> bool
     ensures { result ≡ leap (year_at years) }
 {

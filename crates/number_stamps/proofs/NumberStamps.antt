@@ -4,14 +4,13 @@ use mathlib.Core.Bool.{true, false, false≢true}
 use Prim.Native.Nat.{ℕ, suc, ◌+◌, ◌-◌, ◌*◌, ◌/◌, ◌%◌, ◌^◌, ◌≤◌, ◌<◌}
 use native.Mathlib.Omega.{arith}
 use native.Mathlib.Decide.{dec_lt}
-use lib.IntN.{ℤ, pos, negsuc, ◌+ℤ◌, ◌-ℤ◌, ◌*ℤ◌}
+use lib.IntN.{ℤ, pos, negsuc, ◌+ℤ◌, ◌-ℤ◌}
 use lib.Signed.{lt_z}
 use mir.Syntax.{w32, w64}
-use mir.Val.{SFits, of_z}
+use mir.Val.{SFits}
 use borrow.Author.Tests.{lt-ltb, le-ltb, ltb-true, ltb-false}
 use Rattle.refusal.specs.Answers.{gives, refused}
 use Rattle.signed.proofs.Differences.{minus, neg_plus, sub_ge, sub_lt}
-use Rattle.signed.proofs.Sizes.{times, times_plus}
 use Rattle.number_stamps.specs.NumberStamps.{ticks_of, filetime_hilo, unix_sec_nsec}
 use Rattle.instant.specs.Instants.{at}
 
@@ -30,17 +29,6 @@ no_top_bit low high h l = rw (lt-ltb (ticks_of low high) (2 ^ 63) (omega arith))
 
 pub wider : (z : ℤ) → SFits w32 z → SFits w64 z
 wider z f = record { sfits = omega (arith, f.sfits) }
-
--- 32 bits of a number, as its 64 have them
-pub low_half : (z : ℤ) → SFits w32 z → of_z w64 z % 4294967296 ≡ of_z w32 z
-low_half (pos n) f = omega (arith, f.sfits)
-low_half (negsuc n) f = omega (arith, f.sfits)
-
-pub micros_fit : (high : ℤ) (low : ℕ) → SFits w32 high → low < 4294967296 → SFits w64 (high *ℤ pos 4294967296) × SFits w64 (high *ℤ pos 4294967296 +ℤ pos low)
-micros_fit high low f l = (
-  record { sfits = omega (arith, times high 4294967296 (omega arith), f.sfits) },
-  record { sfits = omega (arith, times_plus high 4294967296 low l, f.sfits) },
-)
 
 -- ---- unix_sec_nsec
 

@@ -1,41 +1,50 @@
--- Bytes one by one: read off the front, and written in order.
-use Prim.Native.Nat.{ℕ, zero, suc, ◌+◌, ◌*◌, ◌/◌, ◌%◌, ◌≤◌, ◌<◌}
-use mathlib.Core.Path.{◌≡◌, refl, sym, ◌∙◌}
-use mathlib.Core.List.{List, [], ◌∷◌, ◌++◌, append-nil}
-use native.Mathlib.Omega.{arith}
-use native.Mathlib.Numerals.{add-one}
-use lib.ListN.{length, get_or, take, drop, set}
-use lib.Seq.{drop-nil, take-suc-set, append_snoc, take_all}
+-- Bytes one by one: read by their places, written in order, and zeros behind them. Assumes nothing.
+use Rattle.std.proofs.Common.{◌≡◌, ℕ, zero, suc, ◌+◌, ◌*◌, ◌/◌, ◌%◌, ◌^◌, ◌<◌, ◌≤◌, List, [], ◌∷◌, ◌++◌, length, get_or, take, drop, set, replicate, refl, sym, ap, ◌∙◌, append-nil, pow-suc, add-one, arith}
+use Rattle.std.specs.Array.{IsFirstChunk}
+use Rattle.std.specs.Int.{byte_worth, sum_through}
+use lib.Seq.{take-suc-set, append_snoc, take_all, length-take-le}
 use Rattle.octets.specs.Octets.{number_of, bytes_of}
 
--- the first of k + 1 bytes from place i on, and the rest; past the end there are zeros
-pub front : (s : List ℕ) (i k : ℕ) → number_of (take (suc k) (drop i s)) ≡ get_or s i 0 + 256 * number_of (take k (drop (suc i) s))
+-- byte k counts 256 ^ k, and past the end there are zeros
+one_byte : (s : List ℕ) (k : ℕ) → number_of (take (suc k) s) ≡ number_of (take k s) + get_or s k 0 * 256 ^ k
 unfolding number_of
-front [] i zero = rw (drop-nil {A = ℕ} i) refl
-front [] i (suc k) = rw (drop-nil {A = ℕ} i) refl
-front (b ∷ s) zero k = refl
-front (b ∷ s) (suc i) k = front s i k
+one_byte [] zero = omega arith
+one_byte [] (suc k) = omega arith
+one_byte (b ∷ s) zero = omega arith
+one_byte (b ∷ s) (suc k) = rw (pow-suc 256 k, one_byte s k) (grind arith)
 
--- no byte is there beyond
-pub past : (s : List ℕ) (k : ℕ) → length s ≤ k → get_or s k 0 ≡ 0
-past [] k h = refl
-past (b ∷ s) zero h = absurd (omega arith)
-past (b ∷ s) (suc k) h = past s k (omega arith)
+-- the library's sum of the first k + 1 bytes of s
+abbrev pub sum_of : List ℕ → ℕ → ℕ
+sum_of s k = sum_through (λ i. byte_worth i (get_or s i 0)) k
 
--- two bytes, four and eight
-pub two : (s : List ℕ) → number_of (take 2 s) ≡ get_or s 0 0 + 256 * get_or s 1 0
+by_places : (s : List ℕ) (k : ℕ) → sum_of s k ≡ number_of (take (suc k) s)
 unfolding number_of
-two s = omega (arith, front s 0 1, front s 1 0)
+by_places s zero = omega (arith, one_byte s 0)
+by_places s (suc k) = omega (arith, one_byte s (suc k), by_places s k)
 
-pub four : (s : List ℕ) → number_of (take 4 s) ≡ get_or s 0 0 + 256 * (get_or s 1 0 + 256 * (get_or s 2 0 + 256 * get_or s 3 0))
-unfolding number_of
-four s = omega (arith, front s 0 3, front s 1 2, front s 2 1, front s 3 0)
+all_bytes : (s : List ℕ) (k : ℕ) → length s ≡ suc k → sum_of s k ≡ number_of s
+all_bytes s k h = by_places s k ∙ ap number_of (take_all (suc k) s (omega arith))
 
-pub eight : (s : List ℕ) →
-    number_of (take 8 s)
-    ≡ get_or s 0 0 + 256 * (get_or s 1 0 + 256 * (get_or s 2 0 + 256 * (get_or s 3 0 + 256 * (get_or s 4 0 + 256 * (get_or s 5 0 + 256 * (get_or s 6 0 + 256 * get_or s 7 0))))))
+-- what the library reads of the first k + 1 bytes of s, and of as many that are a shorter s with zeros behind it
+pub first_number : (k : ℕ) {s bytes : List ℕ} {n : ℕ} → IsFirstChunk s bytes (suc k) → n ≡ sum_of bytes k → n ≡ number_of (take (suc k) s)
+first_number k {s} {bytes} h e = e ∙ all_bytes bytes k (rw h.same (length-take-le (suc k) s h.enough)) ∙ ap number_of h.same
+
+pub whole_number : (k : ℕ) (s bytes : List ℕ) {n : ℕ} → length s < suc k → length bytes ≡ suc k → number_of bytes ≡ number_of s → n ≡ sum_of bytes k
+    → n ≡ number_of (take (suc k) s)
+whole_number k s bytes h l v e = e ∙ all_bytes bytes k l ∙ v ∙ ap number_of (sym (take_all (suc k) s (omega arith)))
+
+-- zeros count nothing
+zeros : (n k : ℕ) → number_of (drop k (replicate n 0)) ≡ 0
 unfolding number_of
-eight s = omega (arith, front s 0 7, front s 1 6, front s 2 5, front s 3 4, front s 4 3, front s 5 2, front s 6 1, front s 7 0)
+zeros zero zero = refl
+zeros zero (suc k) = refl
+zeros (suc n) zero = omega (arith, zeros n 0)
+zeros (suc n) (suc k) = zeros n k
+
+pub zeros_behind : (s : List ℕ) (n k : ℕ) → number_of (s ++ drop k (replicate n 0)) ≡ number_of s
+unfolding number_of
+zeros_behind [] n k = zeros n k
+zeros_behind (b ∷ s) n k = rw (zeros_behind s n k) refl
 
 -- a loop that writes them: one more, and after the last
 pub one_more : (dst : List ℕ) (left i k j : ℕ) {all : List ℕ} →

@@ -1,7 +1,7 @@
 -- What a description's limits say of the numbers that are written: each fits its field, and all together fit the word.
 use mathlib.Core.Path.{◌≡◌, refl, sym, ap, ◌∙◌, subst}
 use mathlib.Core.Bool.{Bool, true, false, cond}
-use Prim.Native.Nat.{ℕ, ◌+◌, ◌-◌, ◌*◌, ◌/◌, ◌^◌, ◌≤◌, ◌<◌}
+use Prim.Native.Nat.{ℕ, ◌+◌, ◌-◌, ◌*◌, ◌/◌, ◌%◌, ◌^◌, ◌≤◌, ◌<◌}
 use native.Mathlib.Nat.{mul-le-mul, mul-le-mul_right, lt_of_le_of_lt, le_of_lt, le_trans, le-div_iff_mul-le, div-mul-le_self, pow-le-pow_right}
 use native.Mathlib.Omega.{arith}
 use lib.IntN.{ℤ, pos, negsuc, nat_abs}
@@ -9,21 +9,22 @@ use lib.Dec.{leb}
 use lib.Signed.{mag}
 use mir.Syntax.{w64}
 use mir.Val.{of_z}
+use Rattle.std.proofs.lemmas.Nat.{shl_whole}
 use borrow.Author.Tests.{lt-leb, leb-true}
 use Rattle.refusal.specs.Answers.{Answer, gives, refused}
 use Rattle.signed.proofs.Tests.{and_false, and_left, and_right}
 use Rattle.day_time.specs.Promises.{Ranged}
 use Rattle.day_time.specs.declared.times.Civil.{Civil}
-use Rattle.byte_orders.specs.Orders.{reversed, year_swapped, ordered}
-use Rattle.byte_orders.specs.declared.Order.TheVariants.{Straight, Reversed, YearSwapped}
+use Rattle.byte_orders.specs.Orders.{ordered}
+use Rattle.byte_orders.specs.declared.Order.TheVariants.{Straight}
 use Rattle.byte_orders.proofs.Promises.{stays_below}
-use Rattle.layouts.specs.Layouts.{base, pairs}
+use Rattle.layouts.specs.Layouts.{base}
 use Rattle.layouts.specs.declared.layouts.Field.{Field}
 use Rattle.layouts.specs.declared.layouts.Layout.{Layout}
 use Rattle.layouts.specs.declared.layouts.Digits.{Digits}
 use Rattle.layouts.specs.declared.layouts.Digits.TheVariants.{Bits, Pairs, SwappedPairs, SemiOctets}
 use Rattle.packing.specs.Writing.{steps, numeral, placed, packed, writes, write_fields}
-use Rattle.packing.specs.Parts.{Fitting, largest, TwoDigits, Holds, top, Writable, Ready, Packing, in_years, write_bits, reordered, write_by, as_word, Below63}
+use Rattle.packing.specs.Parts.{Fitting, largest, TwoDigits, Holds, top, Writable, Ready, Packs, Packing, in_years, write_bits, reordered, write_by}
 
 pub div_mono : {a b k : ℕ} → 0 < k → a ≤ b → a / k ≤ b / k
 div_mono {a} {b} {k} p h = (le-div_iff_mul-le p).1 (le_trans (div-mul-le_self a k) h)
@@ -51,7 +52,6 @@ module _ (d : Digits) (f : Field) (low high v : ℕ) (k : Holds d f low high) (l
   ready = record {
     offset = omega (arith, k.offset);
     step = k.step;
-    small = omega (arith, k.small);
     fits = fitting_le d f most k.fits;
   }
 
@@ -60,35 +60,12 @@ module _ (d : Digits) (f : Field) (low high v : ℕ) (k : Holds d f low high) (l
 
 -- ---- a year and civil fields
 
-abbrev sum : Digits → Layout → ℕ → Civil → ℕ
-sum d l y c =
-    placed d l.year y + placed d l.month c.month + placed d l.day c.day + placed d l.hour c.hour
-    + placed d l.minute c.minute + placed d l.second c.second
-
 module _ {d : Digits} {l : Layout} {y : ℕ} {c : Civil} (p : Packing d l y c) where
   -- the limits, for digits of the layout's own kind
   limits : Packing l.digits l y c
   limits = record { digits = refl; writable = p.writable; ranged = p.ranged; first = p.first; last = p.last }
 
 module _ (l : Layout) (y : ℕ) (c : Civil) (p : Packing l.digits l y c) where
-  pub year_ready : Ready l.digits l.year y
-  year_ready = ready l.digits l.year l.year.offset l.last y p.writable.year p.first p.last
-
-  pub month_ready : Ready l.digits l.month c.month
-  month_ready = ready l.digits l.month 1 12 c.month p.writable.month p.ranged.month_low p.ranged.month_high
-
-  pub day_ready : Ready l.digits l.day c.day
-  day_ready = ready l.digits l.day 1 31 c.day p.writable.day p.ranged.day_low p.ranged.day_high
-
-  pub hour_ready : Ready l.digits l.hour c.hour
-  hour_ready = ready l.digits l.hour 0 23 c.hour p.writable.hour (omega arith) p.ranged.hour
-
-  pub minute_ready : Ready l.digits l.minute c.minute
-  minute_ready = ready l.digits l.minute 0 59 c.minute p.writable.minute (omega arith) p.ranged.minute
-
-  pub second_ready : Ready l.digits l.second c.second
-  second_ready = ready l.digits l.second 0 59 c.second p.writable.second (omega arith) p.ranged.second
-
   pub packed_words : packed l y c < l.words
   unfolding packed
   packed_words =
@@ -106,29 +83,19 @@ module _ (l : Layout) (y : ℕ) (c : Civil) (p : Packing l.digits l y c) where
   pub packed_small : packed l y c < 2 ^ 63
   packed_small = omega (arith, packed_words, p.writable.words)
 
--- the same, where the kind of digits is known
-pub record Packs (d : Digits) (l : Layout) (y : ℕ) (c : Civil) : Type 0 where
-  pub year : Ready d l.year y
-  pub month : Ready d l.month c.month
-  pub day : Ready d l.day c.day
-  pub hour : Ready d l.hour c.hour
-  pub minute : Ready d l.minute c.minute
-  pub second : Ready d l.second c.second
-  pub small : sum d l y c < 2 ^ 63
-  pub is : sum d l y c ≡ packed l y c
-
-own : (l : Layout) (y : ℕ) (c : Civil) → Packing l.digits l y c → Packs l.digits l y c
-unfolding packed
-own l y c p = record {
-  year = year_ready l y c p;
-  month = month_ready l y c p;
-  day = day_ready l y c p;
-  hour = hour_ready l y c p;
-  minute = minute_ready l y c p;
-  second = second_ready l y c p;
-  small = packed_small l y c p;
-  is = refl;
-}
+  -- what writing them asks, for digits of the layout's own kind, and for the kind that they are
+  own : Packs l.digits l y c
+  unfolding packed
+  own = record {
+    digits = refl;
+    year = ready l.digits l.year l.year.offset l.last y p.writable.year p.first p.last;
+    month = ready l.digits l.month 1 12 c.month p.writable.month p.ranged.month_low p.ranged.month_high;
+    day = ready l.digits l.day 1 31 c.day p.writable.day p.ranged.day_low p.ranged.day_high;
+    hour = ready l.digits l.hour 0 23 c.hour p.writable.hour (omega arith) p.ranged.hour;
+    minute = ready l.digits l.minute 0 59 c.minute p.writable.minute (omega arith) p.ranged.minute;
+    second = ready l.digits l.second 0 59 c.second p.writable.second (omega arith) p.ranged.second;
+    small = packed_small;
+  }
 
 pub packs : {d : Digits} {l : Layout} {y : ℕ} {c : Civil} → Packing d l y c → Packs d l y c
 packs {d} {l} {y} {c} p = subst (λ e. Packs e l y c) p.digits (own l y c (limits p))
@@ -168,24 +135,24 @@ module _ (l : Layout) (c : Civil) (w : Writable l) (r : Ranged c) (y : ℕ) (is 
         let a : nat_abs c.year ≡ y = size c.year l.last r.year w.last (rw is at last) ∙ sym is in
         rw (sym agree ∙ h, a) (ap gives e)
 
--- ---- the bits in the order of the word's bytes
+-- ---- bits in an order that changes nothing
 
 pub as_they_are : (x : Answer ℕ) → reordered (ordered Straight) x ≡ x
 unfolding ordered
 as_they_are (gives p) = refl
 as_they_are (refused n) = refl
 
-pub as_reversed : (x : Answer ℕ) → reordered (ordered Reversed) x ≡ reordered reversed x
-unfolding ordered
-as_reversed (gives p) = refl
-as_reversed (refused n) = refl
-
-pub as_year_swapped : (x : Answer ℕ) → reordered (ordered YearSwapped) x ≡ reordered year_swapped x
-unfolding ordered
-as_year_swapped (gives p) = refl
-as_year_swapped (refused n) = refl
-
 -- ---- the word of the bits
+
+-- bits as a word
+abbrev pub as_word : Answer ℕ → Answer ℤ
+as_word (gives p) = gives (pos p)
+as_word (refused n) = refused n
+
+-- bits, where there are some, are below 2^63
+abbrev Below63 : Answer ℕ → Type 0
+Below63 (gives p) = p < 2 ^ 63
+Below63 (refused n) = 0 ≤ n
 
 word_by : (b : Bool) (p : ℕ) (f : ℕ → ℕ) → as_word (reordered f (cond b (gives p) (refused 7))) ≡ cond b (gives (pos (f p))) (refused 7)
 word_by true p f = refl
@@ -200,19 +167,19 @@ module _ (l : Layout) (c : Civil) where
   unfolding write_bits
   its_word = word_by (writes l c.year) (packed l (nat_abs c.year) c) (ordered l.order)
 
-  pub in_word : Writable l → Ranged c → Below63 (write_by l c)
+  pub in_word : Writable l → Ranged c → {p : ℕ} → gives p ≡ write_by l c → p < 2 ^ 63
   unfolding write_bits
-  in_word w r = in_word_by (writes l c.year) (packed l (nat_abs c.year) c) (ordered l.order) (λ e.
+  in_word w r e = subst Below63 (sym e) (in_word_by (writes l c.year) (packed l (nat_abs c.year) c) (ordered l.order) (λ e.
       let h : in_years l (of_z w64 c.year) ≡ true = years_agree l c.year r.year w.last ∙ e in
       let p = packing l c w r (of_z w64 c.year) refl h refl in
       let a = size c.year l.last r.year w.last p.last in
-      stays_below l.order _ (rw a (packed_small l (of_z w64 c.year) c p)))
+      stays_below l.order _ (rw a (packed_small l (of_z w64 c.year) c p))))
 
--- ---- pairs
+-- ---- numbers at their places
 
-pub pair_place : (b : Bool) (f : Field) (n : ℕ) → Fitting (pairs b) f n → f.place < 6
-pair_place true f n h = h.0
-pair_place false f n h = h.0
+-- no bit is shifted out
+pub up : {a : ℕ} (j k : ℕ) → a < 2 ^ j → k + j ≤ 64 → a * 2 ^ k % 2 ^ 64 ≡ a * 2 ^ k
+up {a} j k h f = shl_whole a j k 64 h (omega arith)
 
 pub hundred_small : (n k : ℕ) → n < 100 → k < 6 → n * 100 ^ k < 2 ^ 64
 hundred_small n k h l =

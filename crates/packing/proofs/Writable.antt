@@ -1,7 +1,6 @@
 -- The fourteen descriptions keep what writing asks.
-use mathlib.Core.Bool.{Bool, true, false}
 use native.Mathlib.Omega.{arith}
-use Rattle.layouts.specs.Layouts.{layout_for, pair_layout}
+use Rattle.layouts.specs.Layouts.{layout_for}
 use Rattle.layouts.specs.declared.kinds.Kind.{Kind}
 use Rattle.layouts.specs.declared.kinds.Kind.TheVariants.{FatDos, ExFat, Dttm, BitDate, BitDec, Bcd, Moto, Symantec, Dvr, Ns40, Ns40Le, LogTime, SemiOctet, Gsm}
 use Rattle.packing.specs.Parts.{Writable}
@@ -21,7 +20,3 @@ writable Ns40Le = omega arith
 writable LogTime = omega arith
 writable SemiOctet = omega arith
 writable Gsm = omega arith
-
-pub pair_writable : (b : Bool) → Writable (pair_layout b)
-pair_writable false = writable Bcd
-pair_writable true = writable SemiOctet

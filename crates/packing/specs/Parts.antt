@@ -1,5 +1,5 @@
 -- What the functions inside ask of a description, and promise each other.
-use Rattle.std.specs.Prelude.{◌≡◌, Bool, if◌then◌else◌, ◌&&◌, ℕ, ◌+◌, ◌-◌, ◌*◌, ◌/◌, ◌^◌, ◌≤◌, ◌<◌, nat_le, ℤ, pos, nat_abs}
+use Rattle.std.specs.Prelude.{◌≡◌, Bool, if◌then◌else◌, ◌&&◌, ℕ, ◌+◌, ◌-◌, ◌*◌, ◌/◌, ◌^◌, ◌≤◌, ◌<◌, nat_le, nat_abs}
 use Rattle.refusal.specs.Answers.{Answer, gives, refused}
 use Rattle.day_time.specs.Promises.{Ranged}
 use Rattle.day_time.specs.declared.times.Civil.{Civil}
@@ -9,7 +9,7 @@ use Rattle.layouts.specs.declared.layouts.Field.{Field}
 use Rattle.layouts.specs.declared.layouts.Layout.{Layout}
 use Rattle.layouts.specs.declared.layouts.Digits.{Digits}
 use Rattle.layouts.specs.declared.layouts.Digits.TheVariants.{Bits, Pairs, SwappedPairs, SemiOctets}
-use Rattle.packing.specs.Writing.{numeral, packed, writes}
+use Rattle.packing.specs.Writing.{numeral, placed, packed, writes}
 
 -- a year that the layout writes, by its 64 bits
 abbrev pub in_years : Layout → ℕ → Bool
@@ -50,7 +50,6 @@ TwoDigits SemiOctets k = k ≤ 99
 pub record Holds (d : Digits) (f : Field) (low high : ℕ) : Type 0 where
   pub offset : f.offset ≤ low
   pub step : 0 < f.step
-  pub small : high ≤ 9999
   pub two : TwoDigits d ((high - f.offset) / f.step)
   pub fits : Fitting d f (largest d ((high - f.offset) / f.step))
 
@@ -75,23 +74,29 @@ pub record Writable (l : Layout) : Type 0 where
 pub record Ready (d : Digits) (f : Field) (v : ℕ) : Type 0 where
   pub offset : f.offset ≤ v
   pub step : 0 < f.step
-  pub small : v ≤ 9999
   pub fits : Fitting d f (numeral d f v)
 
+-- the bits of a year and of civil fields, as digits of a kind
+abbrev pub packed_as : Digits → Layout → ℕ → Civil → ℕ
+packed_as d l y c =
+    placed d l.year y + placed d l.month c.month + placed d l.day c.day + placed d l.hour c.hour
+    + placed d l.minute c.minute + placed d l.second c.second
+
 -- and what writing a year and civil fields asks
+pub record Packs (d : Digits) (l : Layout) (y : ℕ) (c : Civil) : Type 0 where
+  pub digits : l.digits ≡ d
+  pub year : Ready d l.year y
+  pub month : Ready d l.month c.month
+  pub day : Ready d l.day c.day
+  pub hour : Ready d l.hour c.hour
+  pub minute : Ready d l.minute c.minute
+  pub second : Ready d l.second c.second
+  pub small : packed_as d l y c < 2 ^ 63
+
+-- which holds within these limits
 pub record Packing (d : Digits) (l : Layout) (y : ℕ) (c : Civil) : Type 0 where
   pub digits : l.digits ≡ d
   pub writable : Writable l
   pub ranged : Ranged c
   pub first : l.year.offset ≤ y
   pub last : y ≤ l.last
-
--- bits as a word
-abbrev pub as_word : Answer ℕ → Answer ℤ
-as_word (gives p) = gives (pos p)
-as_word (refused n) = refused n
-
--- bits, where there are some, are below 2^63
-abbrev pub Below63 : Answer ℕ → Type 0
-Below63 (gives p) = p < 2 ^ 63
-Below63 (refused n) = 0 ≤ n

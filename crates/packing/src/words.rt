@@ -2,88 +2,54 @@
 //
 // Ported from timeglyph's src/registry.rs (Apache-2.0; see NOTICE), and changed.
 ghost use Rattle.std.specs.Prelude.{◌≡◌};
-ghost use Rattle.instant.specs.Answers.{read_encoded};
+ghost use Rattle.refusal.specs.Answers.{answer_of};
 ghost use Rattle.day_time.specs.Answers.{fields_for};
 ghost use Rattle.day_time.specs.Promises.{Ranged};
-ghost use Rattle.byte_orders.specs.Orders.{reversed, year_swapped};
 ghost use Rattle.layouts.specs.Layouts.{layout_for};
 ghost use Rattle.packing.specs.Writing.{write_fields};
-ghost use Rattle.packing.specs.Answers.{read_packed};
-ghost use Rattle.packing.specs.Parts.{write_by, reordered, as_word, Below63};
+ghost use Rattle.packing.specs.Parts.{write_by};
 
-use crate::write::{Packed, write_bits, write_pairs, write_semi_octets};
+use crate::write::write;
 use byte_orders::{reverse, swap_year};
 use civil::fields_of;
-use day_time::{Civil, Fields};
-use instant::Encoded;
+use day_time::Civil;
 use layouts::{
-    BIT_DATE, BIT_DEC, DTTM, DVR, FAT_DOS, GSM, Kind, LOG_TIME, MOTO, NS40, NS40_LE, SYMANTEC,
+    BCD, BIT_DATE, BIT_DEC, Bits, DTTM, DVR, FAT_DOS, GSM, Kind, LOG_TIME, MOTO, NS40, NS40_LE,
+    Pairs, SEMI_OCTET, SYMANTEC, SemiOctets, SwappedPairs,
 };
+use refusal::Refusal;
 
-// Packed bits in another order of bytes.
-fn reverse_packed(packed: Packed) -> Packed
-    ensures { read_packed result ≡ reordered reversed (read_packed packed) }
-{
-    let Packed::Gives(p) = packed else {
-        return packed;
-    };
-    Packed::Gives(reverse(p))
-}
-
-fn swap_packed_year(packed: Packed) -> Packed
-    ensures { read_packed result ≡ reordered year_swapped (read_packed packed) }
-{
-    let Packed::Gives(p) = packed else {
-        return packed;
-    };
-    Packed::Gives(swap_year(p))
-}
-
-// The bits of a civil time by the layout of a kind. With a constant description in each arm, the machine's code has its
-// places as constants.
-fn write_kind(kind: Kind, c: Civil) -> Packed
+// The bits of a civil time by the layout of a kind.
+//
+// Kept: an arm for each kind, as in `read_kind` of `unpacking`, and for its reason.
+#[tactic(auto, using(crate::proofs::Packing::as_they_are), unfolding(byte_orders::specs::Orders::ordered))]
+fn write_kind(kind: Kind, c: Civil) -> Result<u64, Refusal>
     requires { Ranged c }
-    ensures { read_packed result ≡ write_by (layout_for kind) c }
+    ensures { answer_of result ≡ write_by (layout_for kind) c }
 {
     match kind {
-        Kind::FatDos => write_bits(FAT_DOS, c),
-        Kind::ExFat => write_bits(FAT_DOS, c),
-        Kind::Dttm => write_bits(DTTM, c),
-        Kind::BitDate => reverse_packed(write_bits(BIT_DATE, c)),
-        Kind::BitDec => write_bits(BIT_DEC, c),
-        Kind::Bcd => write_pairs(false, c),
-        Kind::Moto => write_bits(MOTO, c),
-        Kind::Symantec => write_bits(SYMANTEC, c),
-        Kind::Dvr => write_bits(DVR, c),
-        Kind::Ns40 => write_bits(NS40, c),
-        Kind::Ns40Le => swap_packed_year(write_bits(NS40_LE, c)),
-        Kind::LogTime => write_bits(LOG_TIME, c),
-        Kind::SemiOctet => write_pairs(true, c),
-        Kind::Gsm => write_semi_octets(GSM, c),
-    }
-}
-
-// The word of packed bits.
-fn word_in(packed: Packed) -> Encoded
-    requires { Below63 (read_packed packed) }
-    ensures { read_encoded result ≡ as_word (read_packed packed) }
-{
-    match packed {
-        Packed::Gives(p) => {
-            let word = p as i64;
-            Encoded::Gives(word)
-        }
-        Packed::Refused(why) => Encoded::Refused(why),
+        Kind::FatDos => write::<Bits>(FAT_DOS, c),
+        Kind::ExFat => write::<Bits>(FAT_DOS, c),
+        Kind::Dttm => write::<Bits>(DTTM, c),
+        Kind::BitDate => write::<Bits>(BIT_DATE, c).map(reverse),
+        Kind::BitDec => write::<Bits>(BIT_DEC, c),
+        Kind::Bcd => write::<Pairs>(BCD, c),
+        Kind::Moto => write::<Bits>(MOTO, c),
+        Kind::Symantec => write::<Bits>(SYMANTEC, c),
+        Kind::Dvr => write::<Bits>(DVR, c),
+        Kind::Ns40 => write::<Bits>(NS40, c),
+        Kind::Ns40Le => write::<Bits>(NS40_LE, c).map(swap_year),
+        Kind::LogTime => write::<Bits>(LOG_TIME, c),
+        Kind::SemiOctet => write::<SwappedPairs>(SEMI_OCTET, c),
+        Kind::Gsm => write::<SemiOctets>(GSM, c),
     }
 }
 
 // The word of some seconds by the layout of a kind. Gsm is written with zone 0.
-pub fn word_of(kind: Kind, seconds: i64) -> Encoded
-    ensures { read_encoded result ≡ write_fields (layout_for kind) (fields_for seconds) }
+pub fn word_of(kind: Kind, seconds: i64) -> Result<i64, Refusal>
+    ensures { answer_of result ≡ write_fields (layout_for kind) (fields_for seconds) }
 {
-    let found = fields_of(seconds);
-    let Fields::Gives(c) = found else {
-        return Encoded::Refused(found.refusal());
-    };
-    word_in(write_kind(kind, c))
+    let c = fields_of(seconds)?;
+    let bits = write_kind(kind, c)?;
+    Ok(bits as i64)
 }

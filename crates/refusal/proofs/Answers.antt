@@ -1,9 +1,10 @@
--- What an answer says of the test behind it, and why a contract allows one answer only.
+-- What an answer says of the test behind it, how it is handed on, and why a contract allows one answer only.
 use mathlib.Core.Path.{◌≡◌, refl, sym, ap, ◌∙◌}
 use mathlib.Core.Bool.{Bool, true, false, cond}
 use Prim.Native.Nat.{ℕ}
 use native.Mathlib.Omega.{arith}
-use Rattle.refusal.specs.Answers.{Answer, gives, refused, refused_by, refusal_in}
+use Rattle.std.specs.Prelude.{Err}
+use Rattle.refusal.specs.Answers.{Answer, gives, refused, number_of, answer_of}
 use Rattle.refusal.specs.declared.Refusal.{Refusal}
 
 -- a refusal is no value
@@ -25,12 +26,8 @@ given_under true x k v e = (refl, e)
 given_under false x k v e = absurd (clash k v (refused k) refl e)
 
 -- an answer that is made of another hands its refusal on, and so does the code that makes it
-pub handed_on : {A B : Type 0} (f : Answer A → Answer B) → ((n : ℕ) → f (refused n) ≡ refused n) → {why r : Refusal} {x : Answer A} → x ≡ refused_by why → r ≡ refusal_in x → refused_by r ≡ f x
-handed_on f h {why} e q = ap refused_by q ∙ ap (λ a. refused_by (refusal_in a)) e ∙ sym (h why.number) ∙ ap f (sym e)
-
--- two refusals of one number are the same
-pub same_refusal : {A : Type 0} (m n : Refusal) (x : Answer A) → x ≡ refused m.number → x ≡ refused n.number → m ≡ n
-same_refusal m n x p q = let e : m.number ≡ n.number = cc in λ i. record { number = e i }
+pub handed_on : {A B : Type 0} (f : Answer A → Answer B) → ((n : ℕ) → f (refused n) ≡ refused n) → (why : Refusal) {x : Answer A} → answer_of {A = A} (Err why) ≡ x → answer_of {A = B} (Err why) ≡ f x
+handed_on f h why e = sym (h (number_of why)) ∙ ap f e
 
 -- where an answer can be told by its reading, a contract `read r ≡ x` allows one answer
 pub only : {R A : Type 0} (read : R → Answer A) → ((a b : R) → read a ≡ read b → a ≡ b) → (x : Answer A) (a b : R) → read a ≡ x → read b ≡ x → a ≡ b

@@ -3,4 +3,3 @@ pub mod Zones
 pub mod RuleNumbers
 pub mod Refusals
 pub mod Stamps
-pub mod OneAnswer

@@ -1,4 +1,4 @@
--- What holds of the definitions. Each is proved in proofs/RuleNumbers, Refusals or OneAnswer.
+-- What holds of the definitions. Each is proved in proofs/RuleNumbers or Refusals.
 use Rattle.std.specs.Prelude.{◌≡◌, ◌⊎◌, ℕ, ◌<◌}
 use Rattle.refusal.specs.Answers.{Answer, gives, refused}
 use Rattle.refusal.specs.Ranges.{RefusedWithin}
@@ -7,10 +7,8 @@ use Rattle.instant.specs.declared.instants.Instant.{Instant}
 use Rattle.layouts.specs.declared.kinds.Kind.{Kind}
 use Rattle.layouts.specs.declared.kinds.Kind.TheVariants.{FatDos, ExFat, Dttm, BitDate, BitDec, Bcd, Moto, Symantec, Dvr, Ns40, Ns40Le, LogTime, SemiOctet, Gsm}
 use Rattle.registry.specs.Words.{rule_for, decode_by, encode_by}
-use Rattle.registry.specs.Answers.{read_picked}
 use Rattle.registry.specs.declared.rules.Rule.{Rule}
 use Rattle.registry.specs.declared.rules.Rule.TheVariants.{Civil, NokiaLe, SqlServer}
-use Rattle.registry.specs.declared.rules.Picked.{Picked}
 
 -- ---- the layout number
 
@@ -56,10 +54,3 @@ EncoderRefusals = (r : Rule) (t : Instant) → RefusedWithin 6 9 (encode_by r t)
 -- nanoseconds above 999,999,999 are refused under 9, whatever else is wrong
 abbrev pub NanosFirst : Type 0
 NanosFirst = (r : Rule) (t : Instant) → 999999999 < t.nanos → encode_by r t ≡ refused 9
-
--- ---- one answer
-
--- whatever the definition says, all that the contract of `pick` allows as its reading is equal. The other calls answer a
--- `Decoded` or an `Encoded`, of which `OneAnswer` of `instant` says the same
-abbrev pub OneAnswer : Type 0
-OneAnswer = (x : Answer Rule) (a b : Picked) → read_picked a ≡ x → read_picked b ≡ x → a ≡ b

@@ -12,5 +12,4 @@ mod zone;
 
 pub use decoding::{decode, decode_bits};
 pub use encoding::{encode, encode_by};
-pub use instant::{Decoded, Encoded};
-pub use rules::{Picked, Rule, pick};
+pub use rules::{Rule, pick};

@@ -30,14 +30,10 @@ mod hex;
 mod numbers;
 mod questions;
 
-ghost use Rattle.std.specs.Prelude.{◌≡◌, ◌≢◌, OnOk, OnErr};
-ghost use Rattle.std.specs.IoError.{error_kind};
-ghost use Rattle.std.specs.Io.KnownBytes.{Appends};
-
 use crate::questions::answer;
-use line_input::{take_line, turns_left};
-use std::io;
-use std::io::{ErrorKind, Read, Write};
+use failures::{Failure, read_failed, status, write_out};
+use line_input::take_line;
+use std::io::{Read, Write};
 use std::process::ExitCode;
 use texts::{first, put};
 
@@ -45,138 +41,72 @@ use texts::{first, put};
 // too long in any case.
 const BLOCK: usize = 65536;
 
-// Where the program stands: how many bytes of a line it holds, and how many of its block's bytes it has used, of how many.
-// A block of no bytes is the end of the input.
+// The bytes of a line that are held, and how many they are; and room for an answer.
 #[derive(Drop)]
-struct Place {
-    held: usize,
-    used: usize,
-    filled: usize,
+struct Buffers {
+    held: [u8; BLOCK],
+    n: usize,
+    out: [u8; BLOCK],
 }
 
-// Where a block is to be read: the one before it, of at least a byte, is used up.
-fn used_up(held: usize) -> Place {
-    Place {
-        held,
-        used: 1,
-        filled: 1,
-    }
-}
-
-// What ends the program before its input does.
-#[derive(Drop)]
-enum Failure {
-    Input(io::Error),
-    Output(io::Error),
-}
-
-// Says on standard error what failed, unless it was a reader that went away. Where that can't be written either, the status
-// alone says it.
-fn say(rt: &impl Eprint, failure: Failure) {
-    let _ = match failure {
-        Failure::Output(why) if why.kind() == ErrorKind::BrokenPipe => Ok(()),
-        Failure::Output(why) => eprintln!(rt; "replay: standard output: {why}"),
-        Failure::Input(why) => eprintln!(rt; "replay: standard input: {why}"),
-    };
-}
-
-// Where a read has failed. One that a signal interrupted is made again. Any other ends the program, and a line that is held
-// gets no answer, since the rest of what it asks is missing.
-fn read_failed(held: usize, why: io::Error) -> Result<Place, Failure>
-    ensures again { OnOk result (error_kind why ≡ ErrorKind.Interrupted) }
-    ensures fails { OnErr result (error_kind why ≢ ErrorKind.Interrupted) }
-{
-    if why.kind() == ErrorKind::Interrupted {
-        return Ok(used_up(held));
-    }
-    Err(Failure::Input(why))
-}
-
-// Writes an answer, all of it where it is Ok.
-fn write_out<W: Write>(output: &mut W, text: &[u8]) -> Result<(), Failure>
-    ensures { OnOk result (Appends (W.contents output.old) (W.contents output.new) text.now) }
-{
-    output.write_all(text).map_err(Failure::Output)
-}
-
-// Answers a line, which is without its LF, in one write.
-fn answer_line(output: &mut impl Write, line: &[u8], out: &mut [u8]) -> Result<(), Failure> {
-    let n = answer(line, out);
-    let end = put(out, n, b"\n");
-    write_out(output, first(out, end))
-}
-
-// A turn takes the block's bytes up to the next LF, and reads the next block where there are none.
-fn turn(
-    input: &mut impl Read,
-    output: &mut impl Write,
-    held: &mut [u8],
-    block: &mut [u8],
-    out: &mut [u8],
-    place: Place,
-) -> Result<Place, Failure> {
-    if place.used < place.filled {
-        let taken = take_line(held, place.held, first(block, place.filled), place.used);
-        if taken.whole {
-            answer_line(output, first(held, taken.held), out)?;
-            return Ok(Place {
-                held: 0,
-                used: taken.next,
-                filled: place.filled,
-            });
+impl Buffers {
+    fn new() -> Self {
+        Buffers {
+            held: [0; BLOCK],
+            n: 0,
+            out: [0; BLOCK],
         }
-        return Ok(Place {
-            held: taken.held,
-            used: taken.next,
-            filled: place.filled,
-        });
     }
-    match input.read(block) {
-        Ok(k) => Ok(Place {
-            held: place.held,
-            used: 0,
-            filled: k,
-        }),
-        Err(why) => read_failed(place.held, why),
-    }
-}
 
-// All of the input but a last line that lacks its LF, whose bytes it counts. A proved loop has to end, and nothing says
-// that the input does, so it counts its turns down, from a number that no run uses up.
-fn run(
-    input: &mut impl Read,
-    output: &mut impl Write,
-    held: &mut [u8],
-    block: &mut [u8],
-    out: &mut [u8],
-) -> Result<usize, Failure> {
-    let mut place = used_up(0);
-    let mut turns = u64::MAX;
-    while 0 < turns {
-        place = turn(input, output, held, block, out, place)?;
-        turns = turns_left(turns, place.filled);
+    // Answers the line that is held, which is without its LF, in one write.
+    fn answer_line(&mut self, output: &mut impl Write) -> Result<(), Failure> {
+        let n = answer(first(&self.held, self.n), &mut self.out);
+        let end = put(&mut self.out, n, b"\n");
+        self.n = 0;
+        write_out(output, first(&self.out, end))
     }
-    Ok(place.held)
-}
 
-// All of the input.
-fn answer_all(input: &mut impl Read, output: &mut impl Write) -> Result<(), Failure> {
-    let mut held = [0u8; BLOCK];
-    let mut block = [0u8; BLOCK];
-    let mut out = [0u8; BLOCK];
-    let n = run(input, output, &mut held, &mut block, &mut out)?;
-    if n == 0 {
-        return Ok(());
+    // Answers the lines that a block ends, and holds what is left of it.
+    //
+    // Kept: by index, which is no counter: what may not change: `take_line` takes one and answers the next.
+    fn answer_block(&mut self, block: &[u8], output: &mut impl Write) -> Result<(), Failure> {
+        let mut from = 0;
+        while from < block.len() {
+            let taken = take_line(&mut self.held, self.n, block, from);
+            self.n = taken.held;
+            from = taken.next;
+            if taken.whole {
+                self.answer_line(output)?;
+            }
+        }
+        Ok(())
     }
-    answer_line(output, first(&held, n), &mut out)
+
+    // Kept: the loop over the reads, as in `stamps`: one for both is no plainer: its closure would borrow all that stands here.
+    //
+    // All of the input, and a last line that lacks its LF. A proved loop has to end, and nothing says that the input does: no run
+    // makes as many reads as this one may.
+    fn answer_all(
+        &mut self,
+        input: &mut impl Read,
+        output: &mut impl Write,
+    ) -> Result<(), Failure> {
+        let mut block = [0; BLOCK];
+        for _ in 0..u64::MAX {
+            match input.read(&mut block) {
+                Ok(0) => break,
+                Ok(k) => self.answer_block(first(&block, k), output)?,
+                Err(why) => read_failed(why)?,
+            }
+        }
+        if self.n == 0 {
+            return Ok(());
+        }
+        self.answer_line(output)
+    }
 }
 
 fn main(rt: HostRuntime) -> ExitCode {
-    match answer_all(&mut rt.stdin(), &mut rt.stdout()) {
-        Ok(()) => ExitCode::SUCCESS,
-        Err(failure) => {
-            say(&rt, failure);
-            ExitCode::FAILURE
-        }
-    }
+    let ended = Buffers::new().answer_all(&mut rt.stdin(), &mut rt.stdout());
+    status(&rt, "replay", ended)
 }

@@ -1,6 +1,6 @@
 -- Proofs of what specs/Promises.antt states. Assumes nothing.
 use Prim.Native.Nat.{ℕ, ◌/◌, ◌%◌}
-use mathlib.Core.Path.{◌≡◌, refl, ap}
+use mathlib.Core.Path.{◌≡◌, refl}
 use mathlib.Core.Bool.{cond, ◌&&◌}
 use native.Mathlib.Omega.{arith}
 use borrow.Author.Tests.{eqb-true, leb-true}
@@ -11,17 +11,14 @@ use mir.Syntax.{w64}
 use mir.Val.{of_z}
 use mir.Facts.{to_z-of_z, Fits-of_z}
 use Rattle.refusal.specs.Answers.{gives, refused}
-use Rattle.refusal.proofs.Answers.{only, same_refusal, given_under}
+use Rattle.refusal.proofs.Answers.{given_under}
 use Rattle.refusal.specs.Ranges.{RefusedWithin}
 use Rattle.refusal.proofs.Ranges.{by_test}
 use Rattle.signed.proofs.Tests.{and_left, and_right}
 use Rattle.octets.specs.Octets.{bytes_of}
 use Rattle.octets.proofs.Promises.{many, comes_back}
 use Rattle.rows.specs.Counted.{rows_in}
-use Rattle.rows.specs.Answers.{read_rows}
-use Rattle.rows.specs.Promises.{RowLengths, InstantComesBack, RowsAreWhole, RowRefusals, OneAnswer}
-use Rattle.rows.specs.declared.counted.Rows.{Rows}
-use Rattle.rows.specs.declared.counted.Rows.TheVariants as rows
+use Rattle.rows.specs.Promises.{RowLengths, InstantComesBack, RowsAreWhole, RowRefusals}
 
 pub row_lengths : RowLengths
 row_lengths = (
@@ -57,12 +54,3 @@ row_refusals n m =
     by_test (RefusedWithin 11 13) (eqb (n % 8) 0 && (eqb (m % 12) 0 && eqb (m / 12) (n / 8))) _ (refused 11)
     (by_test (RefusedWithin 11 13) (leb (n / 8) 1048576) (gives (n / 8)) (refused 13) tt (omega arith, omega arith))
     (omega arith, omega arith)
-
-told : (a b : Rows) → read_rows a ≡ read_rows b → a ≡ b
-told (rows.Gives s) (rows.Gives t) e = ap rows.Gives cc
-told (rows.Gives s) (rows.Refused n) e = cc
-told (rows.Refused m) (rows.Gives t) e = cc
-told (rows.Refused m) (rows.Refused n) e = ap rows.Refused (same_refusal m n (refused m.number) refl e)
-
-pub one_answer : OneAnswer
-one_answer x a b p q = only read_rows told x a b p q

@@ -1,4 +1,3 @@
 pub mod Cells
 pub mod Counted
-pub mod Answers
 pub mod Promises

@@ -1,13 +1,11 @@
 -- What holds of rows. Each is proved in proofs/Promises.antt.
 use Rattle.std.specs.Prelude.{ℕ, ◌*◌, ◌≤◌, ◌<◌, ◌^◌, ◌≡◌, ℤ, length, FitsSigned}
 use Rattle.std.specs.Int.{w64}
-use Rattle.refusal.specs.Answers.{Answer, gives}
+use Rattle.refusal.specs.Answers.{gives}
 use Rattle.refusal.specs.Ranges.{RefusedWithin}
 use Rattle.instant.specs.declared.instants.Instant.{Instant}
 use Rattle.rows.specs.Cells.{instant_of, instant_bytes, word_bytes}
 use Rattle.rows.specs.Counted.{rows_in}
-use Rattle.rows.specs.Answers.{read_rows}
-use Rattle.rows.specs.declared.counted.Rows.{Rows}
 
 -- an instant has 12 bytes, and a word 8
 abbrev pub RowLengths : Type 0
@@ -29,7 +27,3 @@ RowsAreWhole = (n m rows : ℕ) → rows_in n m ≡ gives rows → Whole n m row
 -- columns are refused under 11 to 13
 abbrev pub RowRefusals : Type 0
 RowRefusals = (n m : ℕ) → RefusedWithin 11 13 (rows_in n m)
-
--- one answer: whatever the definition says, all that the contract of `rows_in` allows as its reading is equal
-abbrev pub OneAnswer : Type 0
-OneAnswer = (x : Answer ℕ) (a b : Rows) → read_rows a ≡ x → read_rows b ≡ x → a ≡ b

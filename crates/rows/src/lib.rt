@@ -7,5 +7,5 @@
 mod cells;
 mod counted;
 
-pub use cells::{instant_in, put_instant, put_word};
-pub use counted::{Rows, rows_in};
+pub use cells::{Cell, instant_in};
+pub use counted::rows_in;

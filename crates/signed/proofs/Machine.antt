@@ -21,9 +21,6 @@ mag_flip : (z : ℤ) → mag (flipped z) ≡ mag z
 mag_flip (pos n) = λ i. n
 mag_flip (negsuc n) = λ i. n
 
-pub flip_fits : (w : Width) (z : ℤ) → SFits w z → SFits w (negsuc 0 -ℤ z)
-flip_fits w z f = rw (flip_is z) (record { sfits = rw (mag_flip z) f.sfits })
-
 -- what is read back of the bits of z, and the cast of z, where z is known to be n
 pub read_nat : (w : Width) {z : ℤ} {n : ℕ} → z ≡ pos n → n < 2 ^ hbits w → to_z w (of_z w z) ≡ pos n
 read_nat w e h = rw e (to_z_pos w h)

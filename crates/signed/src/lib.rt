@@ -23,6 +23,8 @@ fn size(x: i64) -> u64
 }
 
 // x / d, rounded down.
+//
+// Kept: by hand, as `rem_floor`, over `flip` and `size`: what may not change: d is any u64, and `div_euclid` takes a signed one.
 pub fn div_floor(x: i64, d: u64) -> i64
     ensures { result ≡ floor_div x d }
 {
@@ -48,19 +50,14 @@ pub fn rem_floor(x: i64, d: u64) -> u64
 pub fn to_bits(x: i64) -> u64
     ensures { result ≡ cast_unsigned w64 x }
 {
-    let n = size(x);
-    if x < 0 { 18446744073709551615 - n } else { n }
+    x.cast_unsigned()
 }
 
 // The number whose 64 bits are n.
 pub fn from_bits(n: u64) -> i64
     ensures { result ≡ cast_signed w64 n }
 {
-    if n < 9223372036854775808 {
-        n as i64
-    } else {
-        flip((18446744073709551615 - n) as i64)
-    }
+    n.cast_signed()
 }
 
 // 2 to the k.

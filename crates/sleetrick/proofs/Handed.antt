@@ -5,12 +5,11 @@ use mathlib.Core.Path.{◌≡◌, refl, ◌∙◌}
 use mathlib.Core.List.{List}
 use borrow.Author.Tests.{eq-eqb, ne_eqb}
 use lib.ListN.{length}
-use Rattle.refusal.specs.Answers.{Answer, gives, refused_by}
-use Rattle.refusal.specs.declared.Refusal.{Refusal}
+use Rattle.refusal.specs.Answers.{Answer, gives, refused}
 use Rattle.rows.specs.Cells.{over}
 use Rattle.rows.proofs.Over.{over_placed}
 use Rattle.sleetrick.specs.Numbers.{tells}
-use Rattle.sleetrick.specs.Calls.{Left, handed, in_row}
+use Rattle.sleetrick.specs.Calls.{handed, in_row}
 
 module _ {A : Type 0} (bytes : A → List ℕ) (w : ℕ) (wide : (x : A) → length (bytes x) ≡ w) (old : List ℕ) where
   -- what a call has to leave for an answer
@@ -23,10 +22,5 @@ module _ {A : Type 0} (bytes : A → List ℕ) (w : ℕ) (wide : (x : A) → len
   pub value : {answer : Answer A} {x : A} {out : List ℕ} → length old ≡ w → answer ≡ gives x → out ≡ over old (bytes x) → Leaves answer 0 out
   value {x = x} l e f = rw (e, eq-eqb (length old) w l) (refl, f ∙ over_placed old (bytes x) (wide x) l)
 
-  pub refusal : {answer : Answer A} {why : Refusal} {number : ℕ} → length old ≡ w → answer ≡ refused_by why → number ≡ tells 0 0 why.number → Leaves answer number old
+  pub refusal : {answer : Answer A} {n number : ℕ} → length old ≡ w → answer ≡ refused n → number ≡ tells 0 0 n → Leaves answer number old
   refusal l e f = rw (e, eq-eqb (length old) w l) (f, refl)
-
--- a call that hands over what another answered
-pub over_handed : {A : Type 0} (call : Answer A → List ℕ → Left) {x y : Answer A} {old out : List ℕ} {number : ℕ} → x ≡ y
-    → (number ≡ (call x old).number) × (out ≡ (call x old).bytes) → (number ≡ (call y old).number) × (out ≡ (call y old).bytes)
-over_handed call e p = rw e at p

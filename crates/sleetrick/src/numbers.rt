@@ -1,12 +1,15 @@
 // The one number that a call answers.
 ghost use Rattle.std.specs.Prelude.{◌≡◌};
+ghost use Rattle.refusal.specs.Answers.{number_of};
 ghost use Rattle.sleetrick.specs.Numbers.{tells};
 
 use refusal::Refusal;
 
 // The number of a refusal, which tells no field and no count.
+//
+// Kept: a number, since it is the C interface.
 pub fn number_of(why: Refusal) -> u64
-    ensures { result ≡ tells 0 0 why.number }
+    ensures { result ≡ tells 0 0 (number_of why) }
 {
-    why.number as u64
+    why.number() as u64
 }

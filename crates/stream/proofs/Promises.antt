@@ -12,7 +12,7 @@ use lib.ListN.{length, take, drop, length-append, length-set}
 use lib.Seq.{length-take-le, take-suc-set}
 use Rattle.line_input.specs.Held.{Kept, holds, line_in, kept}
 use Rattle.lines.specs.Questions.{question_of}
-use Rattle.lines.specs.Answers.{bad_line, answer_text, line_text}
+use Rattle.lines.specs.Answers.{bad_line, asked_text, line_text}
 use Rattle.stream.specs.Stream.{After, after_byte, after_bytes, taken, last_text}
 use Rattle.stream.specs.Promises.{lines_behind, answers_to, output_of, in_blocks, joined, whole, AnyBlocks, Progress, OneAnswer}
 use Rattle.stream.proofs.Feeding.{in_parts}
@@ -30,7 +30,7 @@ data Held (bytes : List ℕ) (n : ℕ) (line : List ℕ) : Type 0 where
 
 -- a line of 65 bytes or more is bad
 bad : (line : List ℕ) → 65 ≤ length line → line_text line ≡ bad_line ++ (10 ∷ [])
-unfolding line_text question_of answer_text
+unfolding line_text question_of asked_text
 bad line h = simp (lt-ltb 64 (length line) (omega arith))
 
 module _ {bytes : List ℕ} {n : ℕ} {line : List ℕ} (room : length bytes ≡ 65) where

@@ -1,40 +1,35 @@
--- A search for the first space: what was passed stands before it, and what is left settles what stands after it. Assumes nothing.
-use Prim.Native.Nat.{ℕ, suc, ◌+◌, ◌≤◌, ◌<◌}
-use mathlib.Core.Path.{◌≡◌, sym}
-use mathlib.Core.List.{List, ◌++◌, append-nil}
-use native.Mathlib.Omega.{arith}
-use native.Mathlib.Numerals.{add-one}
-use borrow.Author.Tests.{eq-eqb, ne_eqb}
-use lib.ListN.{length, get_or, take, drop, drop_of_length-le}
-use lib.Seq.{drop-cons, take-suc, append_snoc}
+-- The first space stands behind what stands before it. Assumes nothing.
+use Rattle.std.proofs.Common.{◌≡◌, ◌≢◌, ℕ, suc, ◌+◌, Bool, true, false, cond, eqb, List, [], ◌∷◌, length, take, drop, refl, ap, ◌∙◌, add-one, arith, eq-eqb, ne_eqb}
 use Rattle.texts.specs.Spaces.{before_space, after_space}
 
-module _ (s : List ℕ) (i : ℕ) where
-  -- past a byte that is no space
-  pub before_more : i < length s → (get_or s i 0 ≡ 32 → ⊥) → take i s ++ before_space (drop i s) ≡ take (i + 1) s ++ before_space (drop (i + 1) s)
-  unfolding before_space
-  before_more h g =
-      rw (add-one i, drop-cons s i 0 h, take-suc s i 0 h)
-      (simp (ne_eqb (get_or s i 0) 32 g) (sym (append_snoc (take i s) (get_or s i 0) (before_space (drop (suc i) s)))))
+pub before_none : length (before_space []) ≡ 0
+unfolding before_space
+before_none = refl
 
-  pub after_more : i < length s → (get_or s i 0 ≡ 32 → ⊥) → after_space (drop i s) ≡ after_space (drop (i + 1) s)
-  unfolding after_space
-  after_more h g = rw (add-one i, drop-cons s i 0 h) (simp (ne_eqb (get_or s i 0) 32 g))
+pub before_hit : (b : ℕ) (bs : List ℕ) → b ≡ 32 → length (before_space (b ∷ bs)) ≡ 0
+unfolding before_space
+before_hit b bs e = simp (eq-eqb b 32 e)
 
-  -- at a space
-  pub before_here : i < length s → get_or s i 0 ≡ 32 → take i s ++ before_space (drop i s) ≡ take i s
-  unfolding before_space
-  before_here h e = rw (drop-cons s i 0 h) (simp (eq-eqb (get_or s i 0) 32 e) (append-nil (take i s)))
+pub before_miss : (b : ℕ) (bs : List ℕ) → b ≢ 32 → length (before_space (b ∷ bs)) ≡ length (before_space bs) + 1
+unfolding before_space
+before_miss b bs e = simp (ne_eqb b 32 e) (omega arith)
 
-  pub after_here : i < length s → get_or s i 0 ≡ 32 → after_space (drop i s) ≡ drop (i + 1) s
-  unfolding after_space
-  after_here h e = rw (add-one i, drop-cons s i 0 h) (simp (eq-eqb (get_or s i 0) 32 e))
+pub before_first : (s : List ℕ) → before_space s ≡ take (length (before_space s)) s
+unfolding before_space
+before_first [] = refl
+before_first (b ∷ bs) = by_test (eqb b 32) (before_first bs)
+  where
+    by_test : (t : Bool) → before_space bs ≡ take (length (before_space bs)) bs
+        → cond t [] (b ∷ before_space bs) ≡ take (length (cond t [] (b ∷ before_space bs))) (b ∷ bs)
+    by_test true e = refl
+    by_test false e = ap (λ l. b ∷ l) e
 
-  -- at the end
-  pub before_end : length s ≤ i → take i s ++ before_space (drop i s) ≡ take i s
-  unfolding before_space
-  before_end h = rw (drop_of_length-le s h) (append-nil (take i s))
-
-  pub after_end : length s ≤ i → after_space (drop i s) ≡ drop (i + 1) s
-  unfolding after_space
-  after_end h = rw (drop_of_length-le s h, drop_of_length-le s {i = i + 1} (omega arith))
+pub after_first : (s : List ℕ) → after_space s ≡ drop (length (before_space s) + 1) s
+unfolding before_space after_space
+after_first [] = refl
+after_first (b ∷ bs) = by_test (eqb b 32) (after_first bs)
+  where
+    by_test : (t : Bool) → after_space bs ≡ drop (length (before_space bs) + 1) bs
+        → cond t bs (after_space bs) ≡ drop (length (cond t [] (b ∷ before_space bs)) + 1) (b ∷ bs)
+    by_test true e = refl
+    by_test false e = rw (add-one (suc (length (before_space bs)))) (e ∙ ap (λ n. drop n bs) (add-one (length (before_space bs))))

@@ -1,4 +1,3 @@
 -- The laws that the proofs cite, and that callers can. Assumes nothing.
-pub mod Tails
 pub mod FirstSpace
 pub mod Putting

@@ -1,9 +1,9 @@
--- A text in a buffer, where it fits and where it does not, and one text behind another. Assumes nothing.
-use Prim.Native.Nat.{ℕ, ◌+◌, ◌≤◌, ◌<◌}
+-- A text in a buffer where it fits, and one text behind another. Assumes nothing.
+use Prim.Native.Nat.{ℕ, ◌+◌, ◌≤◌}
 use mathlib.Core.Path.{◌≡◌, sym, ◌∙◌}
 use mathlib.Core.List.{List, ◌++◌, append_assoc}
 use native.Mathlib.Omega.{arith}
-use borrow.Author.Tests.{le-leb, lt-leb}
+use borrow.Author.Tests.{le-leb}
 use lib.ListN.{length, take, drop, length-append, length-drop}
 use lib.Seq.{take_at, drop_at, drop-drop, length-take-le}
 use Rattle.texts.specs.Buffer.{written}
@@ -16,10 +16,6 @@ module _ (out : List ℕ) (at : ℕ) (text : List ℕ) where
   pub fits : at + length text ≤ length out → written out at text ≡ record { bytes = pasted out at text; next = at + length text }
   unfolding written
   fits h = simp (le-leb (at + length text) (length out) h)
-
-  pub full : length out < at + length text → written out at text ≡ record { bytes = out; next = at }
-  unfolding written
-  full h = simp (lt-leb (at + length text) (length out) h)
 
 -- two texts put one behind the other are both put at once
 module _ (out : List ℕ) (at : ℕ) (a b : List ℕ) (h : at + length (a ++ b) ≤ length out) where

@@ -5,8 +5,5 @@ ghost use Rattle.std.specs.Prelude.{◌≡◌, take};
 pub fn first(s: &[u8], n: usize) -> &[u8]
     ensures { result.now ≡ take n s.now }
 {
-    if s.len() < n {
-        return s;
-    }
-    &s[..n]
+    s.get(..n).unwrap_or(s)
 }

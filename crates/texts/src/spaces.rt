@@ -8,32 +8,19 @@ fn space_in(s: &[u8]) -> usize
     ensures after { after_space s.now ≡ drop (result + 1) s.now }
     ensures within { result ≤ length s.now }
 {
-    let mut i = 0;
-    while i < s.len() {
-        if s[i] == b' ' {
-            return i;
-        }
-        i += 1;
-    }
-    i
+    s.iter().position(|b| *b == b' ').unwrap_or(s.len())
 }
 
 // What stands before the first space: all of s where there is none.
 pub fn before_space(s: &[u8]) -> &[u8]
     ensures { result.now ≡ before_space s.now }
 {
-    let k = space_in(s);
-    &s[..k]
+    &s[..space_in(s)]
 }
 
 // What stands after the first space: nothing where there is none.
 pub fn after_space(s: &[u8]) -> &[u8]
     ensures { result.now ≡ after_space s.now }
 {
-    let k = space_in(s);
-    if k < s.len() {
-        let from = k + 1;
-        return &s[from..];
-    }
-    &s[k..]
+    s.get(space_in(s) + 1..).unwrap_or(&[])
 }

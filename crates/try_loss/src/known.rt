@@ -1,7 +1,7 @@
 // Tries that are known to be wrong, some for each judge. Nothing else that is tried is wrong, so a judge that called what is
 // wrong right would change no other line.
 use crate::steps::Row;
-use crate::tally::{Tally, Total, judged, print_known};
+use crate::tally::{Outcome, Tally, Total, print_known};
 use crate::words::{comes_back, has_word, is_plain};
 use instant::Instant;
 use std::io;
@@ -29,42 +29,39 @@ const TWO_SECONDS: i64 = 194772471906904;
 
 // A word one off; one that is not plain, of an instant that lies half a minute, or a nanosecond, past what its word says; an
 // instant that has no word.
-fn try_words(before: Tally) -> Tally {
+fn try_words(tally: &mut Tally) {
     let midnight = Instant::at_second(MIDNIGHT);
     let no_word = Instant::at_second(0);
-    let mut tally = before;
-    tally = tally.with(comes_back(9, NEXT_WORD, midnight));
-    tally = tally.with(comes_back(3, WITH_WEEKDAY, Instant::at_second(1709164830)));
-    tally = tally.with(comes_back(3, WITH_WEEKDAY, Instant::new(MIDNIGHT, 1)));
-    tally = tally.with(comes_back(9, WORD, no_word));
-    tally = tally.with(judged(has_word(9, midnight, NEXT_WORD)));
-    tally.with(judged(has_word(9, no_word, WORD)))
+    tally.count(comes_back(9, NEXT_WORD, midnight));
+    tally.count(comes_back(3, WITH_WEEKDAY, Instant::at_second(1709164830)));
+    tally.count(comes_back(3, WITH_WEEKDAY, Instant::new(MIDNIGHT, 1)));
+    tally.count(comes_back(9, WORD, no_word));
+    tally.count(has_word(9, midnight, NEXT_WORD).into());
+    tally.count(has_word(9, no_word, WORD).into());
 }
 
 // Words that are not plain: a weekday, low bits, a zone, a digit above 9.
-fn try_plain_words(before: Tally) -> Tally {
-    let mut tally = before;
-    tally = tally.with(judged(is_plain(3, WITH_WEEKDAY)));
-    tally = tally.with(judged(is_plain(12, 124595732481)));
-    tally = tally.with(judged(is_plain(14, 18613160454062081)));
-    tally.with(judged(is_plain(14, 2560)))
+fn try_plain_words(tally: &mut Tally) {
+    tally.count(is_plain(3, WITH_WEEKDAY).into());
+    tally.count(is_plain(12, 124595732481).into());
+    tally.count(is_plain(14, 18613160454062081).into());
+    tally.count(is_plain(14, 2560).into());
 }
 
 // Of a day: a word of the day before, one with nanoseconds, and instants whose word says another second than the latest, says
 // nanoseconds, or is refused. Of the zones: a word whose zone brings it before the first second that has a word.
-fn try_day(before: Tally) -> Tally {
-    let mut marks = [0u8; 2];
-    let mut tally = before;
-    tally = tally.with(crate::day::try_word(9, DAY_BEFORE, &mut marks));
-    tally = tally.with(crate::day::try_word(16, TICK, &mut marks));
-    tally = tally.with(crate::day::try_instant(9, 0, 0, 1));
-    tally = tally.with(crate::day::try_instant(16, 0, 5000000, 0));
-    tally = tally.with(crate::day::try_instant(9, 0, 1000000000, 0));
-    tally.with(crate::zones::try_word(17660905521216))
+fn try_day(tally: &mut Tally) {
+    let mut marks = [false; 2];
+    tally.count(crate::day::try_word(9, DAY_BEFORE, &mut marks));
+    tally.count(crate::day::try_word(16, TICK, &mut marks));
+    tally.count(crate::day::try_instant(9, 0, 0, Some(1)));
+    tally.count(crate::day::try_instant(16, 0, 5000000, Some(0)));
+    tally.count(crate::day::try_instant(9, 0, 1000000000, Some(0)));
+    tally.count(crate::zones::try_word(17660905521216));
 }
 
 // Steps: a step too long ago, one with nanoseconds, and an instant that is not at a step.
-fn try_steps(before: Tally) -> Tally {
+fn try_steps(tally: &mut Tally) {
     let midnight = Instant::at_second(MIDNIGHT);
     let half_a_minute = Instant::at_second(1709164830);
     let row = Row {
@@ -73,30 +70,30 @@ fn try_steps(before: Tally) -> Tally {
         first: 0,
         last: 0,
     };
-    let mut tally = before;
-    tally = tally.with(judged(crate::steps::is_latest(30, half_a_minute, midnight)));
-    tally = tally.with(judged(crate::steps::is_latest(1, midnight, Instant::new(MIDNIGHT, 1))));
-    tally.with(crate::steps::try_instant(row, Instant::at_second(1709164801)))
+    tally.count(crate::steps::is_latest(30, half_a_minute, midnight).into());
+    tally.count(crate::steps::is_latest(1, midnight, Instant::new(MIDNIGHT, 1)).into());
+    tally.count(crate::steps::try_instant(row, Instant::at_second(1709164801)));
 }
 
 // Ticks: one too late, one too early, and words one and two seconds later.
-fn try_ticks(before: Tally) -> Tally {
+fn try_ticks(tally: &mut Tally) {
     let midnight = Instant::at_second(MIDNIGHT);
-    let mut tally = before;
-    tally = tally.with(judged(crate::steps::is_nearest(midnight, TICK)));
-    tally = tally.with(judged(crate::steps::is_nearest(
+    tally.count(crate::steps::is_nearest(midnight, TICK).into());
+    tally.count(Outcome::from(crate::steps::is_nearest(
         Instant::new(MIDNIGHT, 10000000),
         TWO_TICKS,
     )));
-    tally = tally.with(judged(crate::steps::is_nearest(midnight, SECOND)));
-    tally.with(judged(crate::steps::is_nearest(midnight, TWO_SECONDS)))
+    tally.count(crate::steps::is_nearest(midnight, SECOND).into());
+    tally.count(crate::steps::is_nearest(midnight, TWO_SECONDS).into());
 }
 
 // Prints their line, the first.
 pub fn try_known(rt: &impl Print) -> io::Result<Total> {
-    let words = try_words(Tally::new());
-    let plain_words = try_plain_words(words);
-    let day = try_day(plain_words);
-    let steps = try_steps(day);
-    print_known(rt, try_ticks(steps))
+    let mut tally = Tally::default();
+    try_words(&mut tally);
+    try_plain_words(&mut tally);
+    try_day(&mut tally);
+    try_steps(&mut tally);
+    try_ticks(&mut tally);
+    print_known(rt, tally)
 }

@@ -29,17 +29,9 @@ use crate::known::try_known;
 use crate::steps::try_steps;
 use crate::tally::print_total;
 use crate::zones::try_zones;
+use failures::{Failure, status};
 use std::io;
-use std::io::ErrorKind;
 use std::process::ExitCode;
-
-// Says on standard error why a line was not written, unless it was a reader that went away. Where that can't be written either,
-// the status alone says it.
-fn say(rt: &impl Eprint, why: io::Error) {
-    if why.kind() != ErrorKind::BrokenPipe {
-        let _ = eprintln!(rt; "try_loss: standard output: {why}");
-    }
-}
 
 // Every line, until one can't be written.
 fn try_all(rt: &impl Print) -> io::Result<()> {
@@ -51,11 +43,6 @@ fn try_all(rt: &impl Print) -> io::Result<()> {
 }
 
 fn main(rt: HostRuntime) -> ExitCode {
-    match try_all(&rt) {
-        Ok(()) => ExitCode::SUCCESS,
-        Err(why) => {
-            say(&rt, why);
-            ExitCode::FAILURE
-        }
-    }
+    let ended = try_all(&rt).map_err(Failure::Output);
+    status(&rt, "try_loss", ended)
 }

@@ -1,13 +1,13 @@
 // Instants around the first and the last second of a layout, and around ends of days between.
-use crate::tally::{Outcome, Tally, Total, judged, print_tally};
+use crate::tally::{Outcome, Tally, Total, print_tally};
 use crate::words::{has_word, is_plain};
 use instant::Instant;
-use registry::{Decoded, Encoded, decode, encode};
+use registry::{decode, encode};
 use signed::{from_bits, rem_floor, to_bits};
 use std::io;
 
 // The seconds between two words of a layout, and the first and the last second that it writes.
-#[derive(Clone, Copy)]
+#[derive(Clone, Copy, Debug, PartialEq, Eq)]
 pub struct Row {
     pub layout: u32,
     pub step: u64,
@@ -114,28 +114,20 @@ const ROWS: [Row; 16] = [
     },
 ];
 
-// How many seconds are tried around each of the seven centers, and how many instants that is, at ten to a second.
+// How many seconds are tried around each center.
 const AROUND: u64 = 400;
-
-const INSTANTS: u64 = 28000;
 
 // In layout 16, 5 and 995 ms are halfway between two ticks, and from 998,333,334 on the nearest tick is the next second's.
 const NANOS: [u32; 10] = [
     0, 1, 4999999, 5000000, 499999999, 500000000, 995000000, 998333333, 998333334, 999999999,
 ];
 
-// A second to try around: the layout's first and last, the midnights that start 2000-03-01, 2024-03-01, 2025-01-01 and
+// The seconds to try around: the layout's first and last, the midnights that start 2000-03-01, 2024-03-01, 2025-01-01 and
 // 2100-03-01, and 2^31.
-fn center(row: Row, k: u64) -> i64 {
-    match k {
-        0 => row.first,
-        1 => row.last,
-        2 => 951868800,
-        3 => 1709251200,
-        4 => 1735689600,
-        5 => 4107542400,
-        _ => 2147483648,
-    }
+fn centers(row: &Row) -> [i64; 7] {
+    [
+        row.first, row.last, 951868800, 1709251200, 1735689600, 4107542400, 2147483648,
+    ]
 }
 
 // Whether u is the last whole step of the layout, not after t.
@@ -178,37 +170,35 @@ fn is_close(row: Row, t: Instant, word: i64, u: Instant) -> bool {
 
 // The word of t is plain, says an instant that is close, and is the word of that one too.
 pub fn try_instant(row: Row, t: Instant) -> Outcome {
-    let layout = row.layout;
-    let written = encode(layout, t);
-    let Encoded::Gives(word) = written else {
+    let Ok(word) = encode(row.layout, t) else {
         return Outcome::Refused;
     };
-    let said = decode(layout, word);
-    let Decoded::Gives(u) = said else {
+    let Ok(u) = decode(row.layout, word) else {
         return Outcome::Wrong;
     };
-    if is_plain(layout, word) {
+    if is_plain(row.layout, word) {
         if is_close(row, t, word, u) {
-            return judged(has_word(layout, u, word));
+            return has_word(row.layout, u, word).into();
         }
     }
     Outcome::Wrong
 }
 
-// The k-th instant of a layout: the nanos go fastest, then the seconds, then the centers.
-fn instant(row: Row, k: u64) -> Instant {
-    let nanos = NANOS[(k % 10) as usize];
-    let second = k / 10 % AROUND;
-    let from = to_bits(center(row, k / 10 / AROUND));
-    let seconds = from.wrapping_add(second).wrapping_sub(AROUND / 2);
-    Instant::new(from_bits(seconds), nanos)
+// The instants of a second.
+fn try_second(row: Row, seconds: i64, tally: &mut Tally) {
+    for nanos in &NANOS {
+        tally.count(try_instant(row, Instant::new(seconds, *nanos)));
+    }
 }
 
 // All instants of a layout.
 fn try_instants(row: Row) -> Tally {
-    let mut tally = Tally::new();
-    for k in 0..INSTANTS {
-        tally = tally.with(try_instant(row, instant(row, k)));
+    let mut tally = Tally::default();
+    for center in &centers(&row) {
+        let from = to_bits(*center).wrapping_sub(AROUND / 2);
+        for k in 0..AROUND {
+            try_second(row, from_bits(from.wrapping_add(k)), &mut tally);
+        }
     }
     tally
 }

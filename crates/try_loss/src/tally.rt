@@ -2,82 +2,53 @@
 use std::{fmt, io};
 
 // What came of one try.
-#[derive(Clone, Copy)]
+#[derive(Clone, Copy, Debug, PartialEq, Eq)]
 pub enum Outcome {
     Right,
     Refused,
     Wrong,
 }
 
-#[derive(Clone, Copy)]
+// Right, where it is as it should be. (Kept: a bool, which is what a test gives: nothing is plainer.)
+impl From<bool> for Outcome {
+    fn from(ok: bool) -> Self {
+        if ok { Outcome::Right } else { Outcome::Wrong }
+    }
+}
+
+// How many tries came to each. A count stays at the largest number.
+#[derive(Clone, Copy, Debug, PartialEq, Eq, Default)]
 pub struct Tally {
     pub right: u64,
     pub refused: u64,
     pub wrong: u64,
 }
 
-// a + b, or the largest number where that is less.
-pub fn sum(a: u64, b: u64) -> u64 {
-    if u64::MAX - a < b {
-        return u64::MAX;
-    }
-    a + b
-}
-
-// Right, where it is as it should be.
-pub fn judged(ok: bool) -> Outcome {
-    if ok {
-        return Outcome::Right;
-    }
-    Outcome::Wrong
-}
-
 impl Tally {
-    pub fn new() -> Self {
-        Tally {
-            right: 0,
-            refused: 0,
-            wrong: 0,
-        }
-    }
-
     // One try more.
-    pub fn with(self, outcome: Outcome) -> Self {
-        let right = self.right;
-        let refused = self.refused;
-        let wrong = self.wrong;
-        match outcome {
-            Outcome::Right => Tally {
-                right: sum(right, 1),
-                refused,
-                wrong,
-            },
-            Outcome::Refused => Tally {
-                right,
-                refused: sum(refused, 1),
-                wrong,
-            },
-            Outcome::Wrong => Tally {
-                right,
-                refused,
-                wrong: sum(wrong, 1),
-            },
-        }
+    pub fn count(&mut self, outcome: Outcome) {
+        let n = match outcome {
+            Outcome::Right => &mut self.right,
+            Outcome::Refused => &mut self.refused,
+            Outcome::Wrong => &mut self.wrong,
+        };
+        *n = n.saturating_add(1);
     }
 }
 
 // The counts of a part.
 impl fmt::Display for Tally {
     fn fmt<W: fmt::Write>(&self, f: &mut fmt::Formatter<W>) -> fmt::Result {
-        let right = self.right;
-        let refused = self.refused;
-        let wrong = self.wrong;
-        write!(f, "{right} right, {refused} refused, {wrong} wrong")
+        write!(
+            f,
+            "{} right, {} refused, {} wrong",
+            self.right, self.refused, self.wrong
+        )
     }
 }
 
 // Of all lines so far: how many tries were wrong.
-#[derive(Clone, Copy)]
+#[derive(Clone, Copy, Debug, PartialEq, Eq)]
 pub struct Total {
     pub wrong: u64,
 }
@@ -98,12 +69,11 @@ pub fn print_tally(
 ) -> io::Result<Total> {
     println!(rt; "{layout} {part}: {tally}")?;
     Ok(Total {
-        wrong: sum(before.wrong, tally.wrong),
+        wrong: before.wrong.saturating_add(tally.wrong),
     })
 }
 
 // The last line.
 pub fn print_total(rt: &impl Print, total: Total) -> io::Result<()> {
-    let wrong = total.wrong;
-    println!(rt; "{wrong} wrong in all")
+    println!(rt; "{} wrong in all", total.wrong)
 }

@@ -1,7 +1,7 @@
 // Layout 14: every zone byte with every byte of the seconds.
 use crate::tally::{Outcome, Tally, Total, print_tally};
 use crate::words::comes_back;
-use registry::{Decoded, decode};
+use registry::decode;
 use signed::from_bits;
 use std::io;
 
@@ -12,8 +12,7 @@ const FIRST: u64 = 18613160454062080;
 
 // A word says a whole second, and comes back.
 pub fn try_word(word: i64) -> Outcome {
-    let said = decode(LAYOUT, word);
-    let Decoded::Gives(t) = said else {
+    let Ok(t) = decode(LAYOUT, word) else {
         return Outcome::Refused;
     };
     if t.nanos != 0 {
@@ -24,9 +23,9 @@ pub fn try_word(word: i64) -> Outcome {
 
 // All words of the last two bytes.
 fn try_words() -> Tally {
-    let mut tally = Tally::new();
+    let mut tally = Tally::default();
     for k in 0..65536 {
-        tally = tally.with(try_word(from_bits(FIRST + k)));
+        tally.count(try_word(from_bits(FIRST + k)));
     }
     tally
 }

@@ -1,8 +1,6 @@
 -- The fourteen descriptions keep what reading asks.
-use mathlib.Core.Path.{◌≡◌, refl}
-use mathlib.Core.Bool.{Bool, true, false}
 use native.Mathlib.Omega.{arith}
-use Rattle.layouts.specs.Layouts.{layout_for, pairs, pair_layout}
+use Rattle.layouts.specs.Layouts.{layout_for}
 use Rattle.unpacking.specs.Parts.{Sound}
 use Rattle.layouts.specs.declared.kinds.Kind.{Kind}
 use Rattle.layouts.specs.declared.kinds.Kind.TheVariants.{FatDos, ExFat, Dttm, BitDate, BitDec, Bcd, Moto, Symantec, Dvr, Ns40, Ns40Le, LogTime, SemiOctet, Gsm}
@@ -22,8 +20,3 @@ sound Ns40Le = omega arith
 sound LogTime = omega arith
 sound SemiOctet = omega arith
 sound Gsm = omega arith
-
--- the two layouts of pairs, by the order of their digits
-pub pair_sound : (b : Bool) → Sound (pairs b) (pair_layout b) × ((pair_layout b).digits ≡ pairs b)
-pair_sound false = (omega arith, refl)
-pair_sound true = (omega arith, refl)

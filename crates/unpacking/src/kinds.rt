@@ -2,36 +2,41 @@
 //
 // Ported from timeglyph's src/registry.rs (Apache-2.0; see NOTICE), and changed.
 ghost use Rattle.std.specs.Prelude.{◌≡◌};
-ghost use Rattle.day_time.specs.Answers.{read_fields};
+ghost use Rattle.refusal.specs.Answers.{answer_of};
 ghost use Rattle.layouts.specs.Layouts.{layout_for};
 ghost use Rattle.unpacking.specs.Reading.{read_by};
 
-use crate::read::{read_bits, read_pairs, read_semi_octets};
+use crate::read::read;
 use byte_orders::{reverse, swap_year};
-use day_time::Fields;
+use day_time::Civil;
 use layouts::{
-    BIT_DATE, BIT_DEC, DTTM, DVR, FAT_DOS, GSM, Kind, LOG_TIME, MOTO, NS40, NS40_LE, SYMANTEC,
+    BCD, BIT_DATE, BIT_DEC, Bits, DTTM, DVR, FAT_DOS, GSM, Kind, LOG_TIME, MOTO, NS40, NS40_LE,
+    Pairs, SEMI_OCTET, SYMANTEC, SemiOctets, SwappedPairs,
 };
+use refusal::Refusal;
 
-// The fields that a word's 64 bits hold by the layout of a kind. With a constant description in each arm, the machine's
-// code has its places as constants.
-pub fn read_kind(kind: Kind, bits: u64) -> Fields
-    ensures { read_fields result ≡ read_by (layout_for kind) bits }
+// The fields that a word's 64 bits hold by the layout of a kind.
+//
+// Kept: an arm for each kind, as in `layout_of`: with a constant description in each, the machine's code has its places as
+// constants. A row took 34 ns without it, and 7 ns with it (docs/DECISIONS.md).
+#[tactic(auto, unfolding(byte_orders::specs::Orders::ordered))]
+pub fn read_kind(kind: Kind, bits: u64) -> Result<Civil, Refusal>
+    ensures { answer_of result ≡ read_by (layout_for kind) bits }
 {
     match kind {
-        Kind::FatDos => read_bits(FAT_DOS, bits),
-        Kind::ExFat => read_bits(FAT_DOS, bits),
-        Kind::Dttm => read_bits(DTTM, bits),
-        Kind::BitDate => read_bits(BIT_DATE, reverse(bits)),
-        Kind::BitDec => read_bits(BIT_DEC, bits),
-        Kind::Bcd => read_pairs(false, bits),
-        Kind::Moto => read_bits(MOTO, bits),
-        Kind::Symantec => read_bits(SYMANTEC, bits),
-        Kind::Dvr => read_bits(DVR, bits),
-        Kind::Ns40 => read_bits(NS40, bits),
-        Kind::Ns40Le => read_bits(NS40_LE, swap_year(bits)),
-        Kind::LogTime => read_bits(LOG_TIME, bits),
-        Kind::SemiOctet => read_pairs(true, bits),
-        Kind::Gsm => read_semi_octets(GSM, bits),
+        Kind::FatDos => read::<Bits>(FAT_DOS, bits),
+        Kind::ExFat => read::<Bits>(FAT_DOS, bits),
+        Kind::Dttm => read::<Bits>(DTTM, bits),
+        Kind::BitDate => read::<Bits>(BIT_DATE, reverse(bits)),
+        Kind::BitDec => read::<Bits>(BIT_DEC, bits),
+        Kind::Bcd => read::<Pairs>(BCD, bits),
+        Kind::Moto => read::<Bits>(MOTO, bits),
+        Kind::Symantec => read::<Bits>(SYMANTEC, bits),
+        Kind::Dvr => read::<Bits>(DVR, bits),
+        Kind::Ns40 => read::<Bits>(NS40, bits),
+        Kind::Ns40Le => read::<Bits>(NS40_LE, swap_year(bits)),
+        Kind::LogTime => read::<Bits>(LOG_TIME, bits),
+        Kind::SemiOctet => read::<SwappedPairs>(SEMI_OCTET, bits),
+        Kind::Gsm => read::<SemiOctets>(GSM, bits),
     }
 }

@@ -14,6 +14,7 @@ pub fn cut(word: u64, place: u32, width: u32) -> u64
 }
 
 // The k-th pair of decimal digits from the low end, taken one digit at a time.
+#[tactic(auto, using(layouts::proofs::SixPairs::counts_some))]
 pub fn pair(word: u64, k: u32) -> u64
     requires { k < 6 }
     ensures { result ≡ word / 100 ^ k % 100 }

@@ -3,12 +3,15 @@ ghost use Rattle.std.specs.Prelude.{◌≡◌, true};
 ghost use Rattle.gregorian.specs.Gregorian.{years_to, day_number};
 ghost use Rattle.gregorian.specs.Dates.{good_year, good_date, good_day_number, date_at};
 
-use crate::months::{days_before_month, month_of};
-use crate::years::{days_before_year, year_of};
+use crate::passed::{days_before, passed_at};
+use crate::periods::{Months, Years};
 use gregorian::{Date, EPOCH_DAY};
 use month_lengths::{is_leap, length_of_month};
 
 // How many years a year is after -10000.
+//
+// Kept: `gregorian` has the same inside. It asks for a good year, and what a crate passes on asks nothing: a rule of the project
+// (docs/CONTRACTS.md).
 fn years_to(year: i64) -> u64
     requires { good_year year ≡ true }
     ensures { result ≡ years_to year }
@@ -17,6 +20,8 @@ fn years_to(year: i64) -> u64
 }
 
 // Whether there is such a date. A month after December has no days, so it has none of them.
+//
+// Kept: three numbers beside `Date`, here and in `day_of`: it was tried, and the proof of `seconds_of` did not close.
 pub fn is_date(year: i64, month: u64, day: u64) -> bool
     ensures { result ≡ good_date year month day }
 {
@@ -41,7 +46,8 @@ pub fn day_of(year: i64, month: u64, day: u64) -> i32
     ensures { result ≡ day_number year month day }
 {
     let years = years_to(year);
-    let start = days_before_year(years) + days_before_month(is_leap(years), month - 1);
+    let leap = is_leap(years);
+    let start = days_before(Years, years) + days_before(Months { leap }, month - 1);
     (start + (day - 1)) as i32 - EPOCH_DAY as i32
 }
 
@@ -50,8 +56,9 @@ pub fn date_of(number: i64) -> Date
     requires { good_day_number number ≡ true }
     ensures { result ≡ date_at number }
 {
-    let year = year_of((number + EPOCH_DAY) as u64);
-    let month = month_of(is_leap(year.whole), year.left);
+    let year = passed_at(Years, (number + EPOCH_DAY) as u64);
+    let leap = is_leap(year.whole);
+    let month = passed_at(Months { leap }, year.left);
     Date {
         year: year.whole as i64 - 10000,
         month: month.whole + 1,

@@ -6,40 +6,41 @@
 #![tactic(auto)]
 
 ghost use Rattle.std.specs.Prelude.{◌≡◌};
-ghost use Rattle.day_time.specs.Answers.{read_seconds, read_fields, seconds_for, fields_for};
+ghost use Rattle.refusal.specs.Answers.{answer_of};
+ghost use Rattle.day_time.specs.Answers.{seconds_for, fields_for};
 
 mod dates;
-mod months;
 mod passed;
-mod years;
+mod periods;
 
 use crate::dates::{date_of, day_of, is_date};
-use day_time::{Civil, Fields, Seconds, on_date, seconds_on};
+use day_time::{Civil, on_date, seconds_on};
 use instant::Instant;
 use refusal::Refusal;
 use signed::{div_floor, rem_floor};
 
 // The seconds of a civil time.
-pub fn seconds_of(time: Civil) -> Seconds
-    ensures { read_seconds result ≡ seconds_for time }
+#[tactic(auto, using(day_time::proofs::Days::some_day))]
+pub fn seconds_of(time: Civil) -> Result<i64, Refusal>
+    ensures { answer_of result ≡ seconds_for time }
 {
     if is_date(time.year, time.month, time.day) {
         let number = day_of(time.year, time.month, time.day);
         return seconds_on(number, time.hour, time.minute, time.second);
     }
-    Seconds::Refused(Refusal::FIELDS)
+    Err(Refusal::Fields)
 }
 
 // The civil time of some seconds.
-pub fn fields_of(seconds: i64) -> Fields
-    ensures { read_fields result ≡ fields_for seconds }
+pub fn fields_of(seconds: i64) -> Result<Civil, Refusal>
+    ensures { answer_of result ≡ fields_for seconds }
 {
     if seconds < Instant::FIRST {
-        return Fields::Refused(Refusal::WINDOW);
+        return Err(Refusal::Window);
     }
     if Instant::LAST < seconds {
-        return Fields::Refused(Refusal::WINDOW);
+        return Err(Refusal::Window);
     }
     let date = date_of(div_floor(seconds, 86400));
-    Fields::Gives(on_date(date, rem_floor(seconds, 86400)))
+    Ok(on_date(date, rem_floor(seconds, 86400)))
 }

@@ -1,10 +1,9 @@
--- `get16` meets its contract: the bytes joined are the number of the first two. Assumes nothing.
-use native.Mathlib.Omega.{arith}
-use Rattle.octets.proofs.Parts.{two}
+-- `get16` meets its contract: the library's sum of 2 bytes is their number. Assumes nothing.
+use Rattle.octets.proofs.Parts.{first_number, whole_number}
 use Rattle.octets.proofs.get16.Goals as goal
 
-pub returns : goal.returns
-returns c =
-    let c2 = c in
-    let c1 = c2 in
-    omega (arith, c.join_two.ensures, c1.byte_at.ensures, c2.byte_at-2.ensures, two c1.args.s.now)
+pub returns-in-Some : goal.returns-in-Some
+returns-in-Some c = first_number 1 c.in-Some.ensures.cases c.from_le_bytes.ensures
+
+pub returns-in-None : goal.returns-in-None
+returns-in-None c = whole_number 1 _ _ c.in-None.ensures.cases c.padded.ensures.long c.padded.ensures.value c.from_le_bytes-in-None.ensures

@@ -1,12 +1,9 @@
--- `get32` meets its contract: read in one, or byte by byte where the slice ends. Assumes nothing.
-use native.Mathlib.Omega.{arith}
-use Rattle.octets.proofs.Parts.{four}
+-- `get32` meets its contract: the library's sum of 4 bytes is their number. Assumes nothing.
+use Rattle.octets.proofs.Parts.{first_number, whole_number}
 use Rattle.octets.proofs.get32.Goals as goal
 
-pub returns : goal.returns
-returns c =
-    let c4 = c in
-    let c3 = c4 in
-    let c2 = c3 in
-    let c1 = c2 in
-    omega (arith, c.join_four.ensures, c1.byte_at.ensures, c2.byte_at-2.ensures, c3.byte_at-3.ensures, c4.byte_at-4.ensures, four c1.args.s.now)
+pub returns-in-Some : goal.returns-in-Some
+returns-in-Some c = first_number 3 c.in-Some.ensures.cases c.from_le_bytes.ensures
+
+pub returns-in-None : goal.returns-in-None
+returns-in-None c = whole_number 3 _ _ c.in-None.ensures.cases c.padded.ensures.long c.padded.ensures.value c.from_le_bytes-in-None.ensures

@@ -1,16 +1,9 @@
--- `get64` meets its contract: read in one, or byte by byte where the slice ends. Assumes nothing.
-use native.Mathlib.Omega.{arith}
-use Rattle.octets.proofs.Parts.{eight}
+-- `get64` meets its contract: the library's sum of 8 bytes is their number. Assumes nothing.
+use Rattle.octets.proofs.Parts.{first_number, whole_number}
 use Rattle.octets.proofs.get64.Goals as goal
 
-pub returns : goal.returns
-returns c =
-    let c8 = c in
-    let c7 = c8 in
-    let c6 = c7 in
-    let c5 = c6 in
-    let c4 = c5 in
-    let c3 = c4 in
-    let c2 = c3 in
-    let c1 = c2 in
-    omega (arith, c.join_eight.ensures, c1.byte_at.ensures, c2.byte_at-2.ensures, c3.byte_at-3.ensures, c4.byte_at-4.ensures, c5.byte_at-5.ensures, c6.byte_at-6.ensures, c7.byte_at-7.ensures, c8.byte_at-8.ensures, eight c1.args.s.now)
+pub returns-in-Some : goal.returns-in-Some
+returns-in-Some c = first_number 7 c.in-Some.ensures.cases c.from_le_bytes.ensures
+
+pub returns-in-None : goal.returns-in-None
+returns-in-None c = whole_number 7 _ _ c.in-None.ensures.cases c.padded.ensures.long c.padded.ensures.value c.from_le_bytes-in-None.ensures

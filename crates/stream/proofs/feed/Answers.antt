@@ -1,6 +1,6 @@
--- `lines::stream::feed` meets its contract. The loop's invariant, `Feeding`: the bytes passed have gone through the stream,
+-- `stream::feed` meets its contract. The loop's invariant, `Feeding`: the bytes passed have gone through the stream,
 -- and what is left to take is what the rest of the block says. Assumes nothing.
-use native.Mathlib.Omega.{arith}
+use Rattle.std.proofs.Common.{◌≡◌, length, arith}
 use Rattle.stream.proofs.Feeding.{feed_start, feed_more, feed_end, taken_full, taken_all}
 use Rattle.stream.proofs.feed.Goals as goal
 
@@ -17,4 +17,6 @@ loop-i-preserved c =
     (fed.ensures.next, fed.ensures.out_after) fed.auto.out
 
 pub returns : goal.returns
-returns c = feed_end _ _ _ c.loop-i.invariant (taken_all _ _ _ _ c.loop-i-test.false)
+returns c =
+    let all : length c.args.block.now ≡ c.loop-i.i = omega arith in
+    rw all (feed_end _ _ _ c.loop-i.invariant (taken_all _ _ _ _ c.loop-i-test.false))

@@ -1,7 +1,8 @@
 -- `date_in_year` meets its contract: the month that was found is the one whose whole months have passed. Assumes nothing.
 use mathlib.Core.Path.{sym, ap, ◌∙◌, subst}
 use mir.Syntax.{w64}
-use mir.Facts.{to_z-of_z}
+use Rattle.signed.proofs.Differences.{minus}
+use Rattle.signed.proofs.Machine.{lowers}
 use Rattle.month_lengths.specs.Lengths.{leap, days_of_months, year_days, year_at}
 use Rattle.gregorian.specs.Parts.{InMonth}
 use Rattle.gregorian.proofs.Days.{date_in_year_lem}
@@ -15,7 +16,7 @@ month_of-found-requires c = omega (arith, c.requires.1, ap (λ b. days_of_months
 pub returns : goal.returns
 returns c =
     let s = c.args in
-    let found : InMonth (leap (year_at s.years)) s.left c.month_of-found.result.month c.month_of-found.result.left =
-    subst (λ b. InMonth b s.left c.month_of-found.result.month c.month_of-found.result.left) c.is_leap.ensures c.month_of-found.ensures in
-    let y = to_z-of_z {w = w64} (record { sfits = c.year_at.type_inv }) ∙ c.year_at.ensures in
+    let found : InMonth (leap (year_at s.years)) s.left c.month_of-found.result.whole c.month_of-found.result.left =
+    subst (λ b. InMonth b s.left c.month_of-found.result.whole c.month_of-found.result.left) c.is_leap.ensures c.month_of-found.ensures in
+    let y = (lowers w64 s.years 10000 (omega (arith, c.requires.0)) (omega arith)).is ∙ sym (minus s.years 10000) in
     rw y (sym (date_in_year_lem s.years found))

@@ -1,31 +1,19 @@
--- `texts::spaces::space_in` meets its contract. The loop's invariant: what stands before the first space is
--- what was passed and what stands before it in what is left, and what stands after it is that of what is left. Assumes nothing.
-use mathlib.Core.Path.{◌∙◌}
-use native.Mathlib.Omega.{arith}
-use Rattle.texts.proofs.FirstSpace.{before_more, before_here, before_end, after_more, after_here, after_end}
+-- `texts::spaces::space_in` meets its contract: the first space stands behind as many bytes as stand before it. Assumes
+-- nothing.
+use Rattle.std.proofs.Common.{◌≡◌, ◌≢◌, length, rules, tests, sym, ◌∙◌}
+use Rattle.std.proofs.lemmas.Iterator.{IsFirst-from_position, YieldsList-from_slice, index_from_first}
+use Rattle.texts.specs.Spaces.{before_space}
+use Rattle.texts.proofs.FirstSpace.{before_none, before_hit, before_miss, before_first, after_first}
 use Rattle.texts.proofs.spaces.space_in.Goals as goal
+use Rattle.texts.proofs.spaces.space_in.Goals.{After-unwrap_or}
 
-pub returns-then-s-i-eq32 : goal.returns-then-s-i-eq32
-returns-then-s-i-eq32 c =
-    let inv = c.loop-i.invariant in
-    let h = c.loop-i-test.true in
-    record {
-      before = inv.1 ∙ before_here _ _ h c.if-s-i-eq32.true;
-      after = inv.2 ∙ after_here _ _ h c.if-s-i-eq32.true;
-      within = inv.0;
-    }
+found : (c : After-unwrap_or) → length (before_space c.args.s.now) ≡ c.unwrap_or.result
+found c =
+    let first = IsFirst-from_position _ _ c.position.result (λ x. x ≡ 32) (λ x. x ≢ 32) c.position.ensures.ran (YieldsList-from_slice c.args.s.now cc) (λ x q k. search (rules, tests)) (λ x q k. search (rules, tests)) in
+    index_from_first (λ s. length (before_space s)) (λ x. x ≡ 32) (λ x. x ≢ 32) before_none before_hit before_miss c.args.s.now c.position.result first ∙ sym c.unwrap_or.ensures
 
-pub loop-i-preserved : goal.loop-i-preserved
-loop-i-preserved c =
-    let inv = c.loop-i.invariant in
-    let h = c.loop-i-test.true in
-    (omega arith, inv.1 ∙ before_more _ _ h c.if-s-i-eq32.false, inv.2 ∙ after_more _ _ h c.if-s-i-eq32.false)
+pub returns-clause-before : goal.returns-clause-before
+returns-clause-before c = rw (← found c) (before_first c.args.s.now)
 
-pub returns : goal.returns
-returns c =
-    let inv = c.loop-i.invariant in
-    record {
-      before = inv.1 ∙ before_end _ _ c.loop-i-test.false;
-      after = inv.2 ∙ after_end _ _ c.loop-i-test.false;
-      within = inv.0;
-    }
+pub returns-clause-after : goal.returns-clause-after
+returns-clause-after c = rw (← found c) (after_first c.args.s.now)

@@ -3,12 +3,16 @@
 use mathlib.Core.Path.{sym, ap, ◌∙◌, subst}
 use native.Mathlib.Omega.{arith}
 use mir.Syntax.{w64}
-use Rattle.signed.proofs.Differences.{minus}
+use Rattle.signed.proofs.Differences.{minus, raised}
 use Rattle.signed.proofs.Machine.{lowers}
-use Rattle.month_lengths.specs.Lengths.{leap, days_of_months, year_days, year_at}
-use Rattle.gregorian.specs.Parts.{InMonth}
+use Rattle.month_lengths.specs.Lengths.{days_of_months, year_days}
+use Rattle.gregorian.specs.Gregorian.{epoch_day}
+use Rattle.gregorian.specs.Parts.{InYear, InMonth}
+use Rattle.gregorian.proofs.MonthSums.{months_step}
+use Rattle.gregorian.proofs.YearSums.{years_step}
 use Rattle.gregorian.proofs.Days.{raises_day, days_most, date_at_lem, date_in_year_lem}
 use Rattle.year_walk.proofs.dates.date_of.Goals as goal
+use Rattle.year_walk.proofs.dates.date_of.Goals.{After-passed_at-year}
 
 pub overflow_add-number : goal.overflow_add-number
 overflow_add-number c = (raises_day c.ranges.number c.requires).fits
@@ -16,19 +20,40 @@ overflow_add-number c = (raises_day c.ranges.number c.requires).fits
 pub overflow_cast-number : goal.overflow_cast-number
 overflow_cast-number c = (raises_day c.ranges.number c.requires).cast
 
-pub year_of-year-requires : goal.year_of-year-requires
-year_of-year-requires c = rw (raises_day c.ranges.number c.requires).is (days_most c.args.number c.requires)
+pub passed_at-year-requires : goal.passed_at-year-requires
+passed_at-year-requires c = rw (raises_day c.ranges.number c.requires).is (days_most c.args.number c.requires)
 
-pub month_of-month-requires : goal.month_of-month-requires
+-- the year that was walked to is the one that the day lies in
+in_year : (c : After-passed_at-year) → InYear (raised epoch_day c.args.number) c.passed_at-year.result.whole c.passed_at-year.result.left
+in_year c =
+    let y = c.passed_at-year.result in
+    let e = c.passed_at-year.ensures in
+    let d = (raises_day c.ranges.number c.requires).is in
+    record {
+      year = e.within;
+      is = e.is ∙ d;
+      short = omega (arith, e.is, e.short, years_step y.whole);
+    }
+
+pub passed_at-month-requires : goal.passed_at-month-requires
 unfolding year_days
-month_of-month-requires c = omega (arith, c.year_of-year.ensures.short, ap (λ b. days_of_months b 12) c.is_leap.ensures)
+passed_at-month-requires c =
+    let y = in_year (goal.at.passed_at-month-requires c).After-passed_at-year in
+    omega (arith, y.short, ap (λ b. days_of_months b 12) c.is_leap-leap.ensures)
 
 pub returns : goal.returns
+unfolding year_days
 returns c =
-    let y = c.year_of-year.result in
-    let n = y.whole in
-    let year = lowers w64 n 10000 (omega (arith, c.year_of-year.ensures.year)) (omega arith) in
-    let found : InMonth (leap (year_at n)) y.left c.month_of-month.result.whole c.month_of-month.result.left =
-    subst (λ b. InMonth b y.left c.month_of-month.result.whole c.month_of-month.result.left) c.is_leap.ensures c.month_of-month.ensures in
-    let d = date_at_lem c.args.number (rw (raises_day c.ranges.number c.requires).is at c.year_of-year.ensures) ∙ date_in_year_lem n found in
+    let y = in_year (goal.at.returns c).After-passed_at-year in
+    let n = c.passed_at-year.result.whole in
+    let b = c.is_leap-leap.result in
+    let m = c.passed_at-month.result in
+    let e = c.passed_at-month.ensures in
+    let found : InMonth b c.passed_at-year.result.left m.whole m.left = record {
+      month = e.within;
+      is = e.is;
+      short = omega (arith, e.is, e.short, months_step b m.whole);
+    } in
+    let year = lowers w64 n 10000 (omega (arith, y.year)) (omega arith) in
+    let d = date_at_lem c.args.number y ∙ date_in_year_lem n (subst (λ r. InMonth r c.passed_at-year.result.left m.whole m.left) c.is_leap-leap.ensures found) in
     rw (year.is ∙ sym (minus n 10000)) (sym d)

@@ -1,5 +1,0 @@
--- A turn is counted each time.
-use Rattle.replay.proofs.run.Given as goal
-
-abbrev pub decreases-loop-turns : goal.decreases-loop-turns
-decreases-loop-turns g l = l.turns
