@@ -1,4 +1,4 @@
-// How long a reader goes on. A proved loop has to end, and nothing says that an input does: a reader may count turns down, from
+// How long a reader goes on. A proved loop has to end, and nothing says that an input does: a program counts turns down, from
 // a number that no run uses up.
 ghost use Rattle.std.specs.Prelude.{◌≡◌, ◌≤◌, ◌-◌};
 ghost use Rattle.line_input.specs.Turns.{left};

@@ -13,6 +13,7 @@
 #![tactic(auto)]
 
 use failures::{Failure, read_failed, status, write_out};
+use line_input::turns_left;
 use std::io::{Read, Write};
 use std::process::ExitCode;
 use stream::{feed, last_line};
@@ -56,21 +57,39 @@ impl Buffers {
         write_out(output, first(&self.out, wrote))
     }
 
+    // Reads a block and answers the lines that it ends: how many bytes it has. A read that is made again counts as a block of one.
+    fn answer_next(
+        &mut self,
+        block: &mut [u8],
+        input: &mut impl Read,
+        output: &mut impl Write,
+    ) -> Result<usize, Failure> {
+        match input.read(block) {
+            Ok(k) => {
+                self.answer_block(first(block, k), output)?;
+                Ok(k)
+            }
+            Err(why) => {
+                read_failed(why)?;
+                Ok(1)
+            }
+        }
+    }
+
     // Kept: the loop over the reads, as in `replay`: one for both is no plainer: its closure would borrow all that stands here.
     //
-    // All of the input. A proved loop has to end, and nothing says that the input does: no run makes as many reads as this one
-    // may.
+    // All of the input. A proved loop has to end, and nothing says that the input does: the turns are from a number that no run
+    // uses up, and none is left where the input has ended.
     fn answer_all(
         &mut self,
         input: &mut impl Read,
         output: &mut impl Write,
     ) -> Result<(), Failure> {
         let mut block = [0; BLOCK];
-        for _ in 0..u64::MAX {
-            match input.read(&mut block) {
-                Ok(0) => break,
-                Ok(k) => self.answer_block(first(&block, k), output)?,
-                Err(why) => read_failed(why)?,
+        for turn in 0..u64::MAX {
+            let k = self.answer_next(&mut block, input, output)?;
+            if turns_left(u64::MAX - turn, k) == 0 {
+                break;
             }
         }
         self.answer_rest(output)
