@@ -3,9 +3,10 @@
 // Ported from timeglyph's src/compose.rs (Apache-2.0; see NOTICE), and changed.
 ghost use Rattle.std.specs.Prelude.{◌≡◌};
 ghost use Rattle.refusal.specs.Answers.{answer_of};
+ghost use Rattle.day_time.specs.Answers.{seconds_for};
 ghost use Rattle.byte_stamps.specs.Cp56Stamp.{cp56_fields, cp56};
 
-use civil::seconds_of;
+use civil::seconds_at;
 use day_time::Civil;
 use instant::Instant;
 use octets::get16;
@@ -26,6 +27,21 @@ fn cp56_time(stamp: &[u8; 7]) -> Civil
     }
 }
 
+// Its seconds, by six numbers, which go in registers.
+fn cp56_seconds(stamp: &[u8; 7]) -> Result<i64, Refusal>
+    ensures { answer_of result ≡ seconds_for (cp56_fields stamp.now) }
+{
+    let time = cp56_time(stamp);
+    seconds_at(
+        time.year,
+        time.month,
+        time.day,
+        time.hour,
+        time.minute,
+        time.second,
+    )
+}
+
 #[tactic(auto, unfolding(crate::specs::Cp56Stamp::cp56))]
 pub fn cp56time2a(stamp: &[u8]) -> Result<Instant, Refusal>
     ensures { answer_of result ≡ cp56 stamp.now }
@@ -34,7 +50,7 @@ pub fn cp56time2a(stamp: &[u8]) -> Result<Instant, Refusal>
         return Err(Refusal::Length);
     };
     // Kept: `let .. else` in place of `?`: a rule of the project: document 01 names this form for this place.
-    let found = seconds_of(cp56_time(stamp));
+    let found = cp56_seconds(stamp);
     let Ok(seconds) = found else {
         return Err(found.unwrap_err());
     };

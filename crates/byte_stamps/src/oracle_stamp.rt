@@ -3,9 +3,10 @@
 // Ported from timeglyph's src/compose.rs (Apache-2.0; see NOTICE), and changed.
 ghost use Rattle.std.specs.Prelude.{◌≡◌};
 ghost use Rattle.refusal.specs.Answers.{answer_of};
+ghost use Rattle.day_time.specs.Answers.{seconds_for};
 ghost use Rattle.byte_stamps.specs.OracleStamp.{less_one, oracle_fields, oracle_date};
 
-use civil::seconds_of;
+use civil::seconds_at;
 use day_time::Civil;
 use instant::Instant;
 use refusal::Refusal;
@@ -36,6 +37,21 @@ fn oracle_time(stamp: &[u8; 7]) -> Civil
     }
 }
 
+// Its seconds, by six numbers, which go in registers.
+fn oracle_seconds(stamp: &[u8; 7]) -> Result<i64, Refusal>
+    ensures { answer_of result ≡ seconds_for (oracle_fields stamp.now) }
+{
+    let time = oracle_time(stamp);
+    seconds_at(
+        time.year,
+        time.month,
+        time.day,
+        time.hour,
+        time.minute,
+        time.second,
+    )
+}
+
 #[tactic(auto, unfolding(crate::specs::OracleStamp::oracle_date))]
 pub fn oracle_date(stamp: &[u8]) -> Result<Instant, Refusal>
     ensures { answer_of result ≡ oracle_date stamp.now }
@@ -44,7 +60,7 @@ pub fn oracle_date(stamp: &[u8]) -> Result<Instant, Refusal>
         return Err(Refusal::Length);
     };
     // Kept: `let .. else` in place of `?`: a rule of the project: document 01 names this form for this place.
-    let found = seconds_of(oracle_time(stamp));
+    let found = oracle_seconds(stamp);
     let Ok(seconds) = found else {
         return Err(found.unwrap_err());
     };

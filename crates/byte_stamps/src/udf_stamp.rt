@@ -4,9 +4,10 @@
 ghost use Rattle.std.specs.Prelude.{◌≡◌, ◌<◌, ◌^◌, pos, ◌+ℤ◌, ◌-ℤ◌, ◌*ℤ◌};
 ghost use Rattle.std.specs.Int.Signed.{mag};
 ghost use Rattle.refusal.specs.Answers.{answer_of};
+ghost use Rattle.day_time.specs.Answers.{seconds_for};
 ghost use Rattle.byte_stamps.specs.UdfStamp.{udf_fields, udf_minutes, udf_parts, udf_stamp};
 
-use civil::seconds_of;
+use civil::seconds_at;
 use day_time::Civil;
 use instant::Instant;
 use octets::get16;
@@ -26,6 +27,21 @@ fn udf_time(stamp: &[u8; 12]) -> Civil
         minute: minute as u64,
         second: second as u64,
     }
+}
+
+// Its seconds, by six numbers, which go in registers.
+fn udf_seconds(stamp: &[u8; 12]) -> Result<i64, Refusal>
+    ensures { answer_of result ≡ seconds_for (udf_fields stamp.now) }
+{
+    let time = udf_time(stamp);
+    seconds_at(
+        time.year,
+        time.month,
+        time.day,
+        time.hour,
+        time.minute,
+        time.second,
+    )
 }
 
 // The nanoseconds in its last three bytes.
@@ -62,7 +78,7 @@ pub fn udf(stamp: &[u8]) -> Result<Instant, Refusal>
         return Err(Refusal::Length);
     };
     // Kept: `let .. else` in place of `?`: a rule of the project: document 01 names this form for this place.
-    let found = seconds_of(udf_time(stamp));
+    let found = udf_seconds(stamp);
     let Ok(local) = found else {
         return Err(found.unwrap_err());
     };
