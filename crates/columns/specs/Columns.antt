@@ -1,6 +1,6 @@
 -- What a column call leaves in its output, and the number that it answers.
 use Rattle.std.specs.Prelude.{◌≡◌, ℕ, zero, suc, ◌+◌, ◌*◌, List, ◌++◌, length, take, drop, Result, Ok, Err}
-use Rattle.refusal.specs.Answers.{Answer, gives, refused, number_of}
+use Rattle.refusal.specs.Answers.{Answer, gives, refused, refusal_number}
 use Rattle.refusal.specs.declared.Refusal.{Refusal}
 use Rattle.rows.specs.Cells.{instant_of, instant_bytes, bits_of, word_bytes}
 use Rattle.rows.specs.Counted.{rows_in}
@@ -24,7 +24,7 @@ encode_row rule bytes = as_bytes word_bytes (encode_by rule (instant_of bytes))
 -- what a call leaves that was lent a row of the output: what its row gives; or its refusal, and the row as it was
 abbrev pub RowLeaves : Answer (List ℕ) → List ℕ → Result (Unit {0}) Refusal → List ℕ → Type 0
 RowLeaves answer old (Ok done) new = answer ≡ gives new
-RowLeaves answer old (Err why) new = (answer ≡ refused (number_of why)) × (new ≡ old)
+RowLeaves answer old (Err why) new = (answer ≡ refused (refusal_number why)) × (new ≡ old)
 
 -- ---- all rows
 

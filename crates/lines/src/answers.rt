@@ -3,7 +3,7 @@
 // Kept: a buffer, an index and their room beside each other: a struct is no plainer, since each call of `texts::put` takes it
 // apart.
 ghost use Rattle.std.specs.Prelude.{◌≡◌, ℕ, ◌+◌, ◌≤◌, List, length};
-ghost use Rattle.refusal.specs.Answers.{number_of, answer_of};
+ghost use Rattle.refusal.specs.Answers.{refusal_number, answer_of};
 ghost use Rattle.decimal.specs.Write.{show_int};
 ghost use Rattle.texts.specs.Buffer.{written};
 ghost use Rattle.lines.specs.Questions.{narrowed};
@@ -47,8 +47,8 @@ fn put_bad_line(out: &mut [u8], at: usize) -> usize
 // A refusal, by its number.
 fn put_refused(out: &mut [u8], at: usize, why: Refusal) -> usize
     requires { at + 48 ≤ length out.old }
-    ensures value { result ≡ (written out.old at (refused_text (number_of why))).next }
-    ensures out_after { out.new ≡ (written out.old at (refused_text (number_of why))).bytes }
+    ensures value { result ≡ (written out.old at (refused_text (refusal_number why))).next }
+    ensures out_after { out.new ≡ (written out.old at (refused_text (refusal_number why))).bytes }
 {
     let to = put(out, at, b"refused ");
     put_number(out, to, why.number() as i64)

@@ -4,7 +4,7 @@ use mathlib.Core.Bool.{Bool, true, false, cond}
 use Prim.Native.Nat.{ℕ}
 use native.Mathlib.Omega.{arith}
 use Rattle.std.specs.Prelude.{Err}
-use Rattle.refusal.specs.Answers.{Answer, gives, refused, number_of, answer_of}
+use Rattle.refusal.specs.Answers.{Answer, gives, refused, refusal_number, answer_of}
 use Rattle.refusal.specs.declared.Refusal.{Refusal}
 
 -- a refusal is no value
@@ -27,7 +27,7 @@ given_under false x k v e = absurd (clash k v (refused k) refl e)
 
 -- an answer that is made of another hands its refusal on, and so does the code that makes it
 pub handed_on : {A B : Type 0} (f : Answer A → Answer B) → ((n : ℕ) → f (refused n) ≡ refused n) → (why : Refusal) {x : Answer A} → answer_of {A = A} (Err why) ≡ x → answer_of {A = B} (Err why) ≡ f x
-handed_on f h why e = sym (h (number_of why)) ∙ ap f e
+handed_on f h why e = sym (h (refusal_number why)) ∙ ap f e
 
 -- where an answer can be told by its reading, a contract `read r ≡ x` allows one answer
 pub only : {R A : Type 0} (read : R → Answer A) → ((a b : R) → read a ≡ read b → a ≡ b) → (x : Answer A) (a b : R) → read a ≡ x → read b ≡ x → a ≡ b

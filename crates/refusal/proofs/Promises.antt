@@ -3,7 +3,7 @@ use mathlib.Core.Path.{◌≡◌, refl, sym, ap, ◌∙◌}
 use Prim.Native.Nat.{ℕ, ◌-◌}
 use Rattle.std.specs.Prelude.{Result, Ok, Err, [], ◌∷◌}
 use lib.ListN.{get_or}
-use Rattle.refusal.specs.Answers.{Answer, gives, refused, number_of, answer_of}
+use Rattle.refusal.specs.Answers.{Answer, gives, refused, refusal_number, answer_of}
 use Rattle.refusal.proofs.Answers.{only}
 use Rattle.refusal.specs.Promises.{OneAnswer}
 use Rattle.refusal.specs.declared.Refusal.{Refusal}
@@ -14,7 +14,7 @@ abbrev refusal_at : ℕ → Refusal
 refusal_at n =
     get_or (refusal.Layout ∷ refusal.Range ∷ refusal.Fields ∷ refusal.Zone ∷ refusal.Ticks ∷ refusal.Window ∷ refusal.Year ∷ refusal.Count ∷ refusal.Nanos ∷ refusal.Length ∷ refusal.Rows ∷ refusal.Carry ∷ refusal.Column ∷ []) (n - 1) refusal.Layout
 
-back : (why : Refusal) → refusal_at (number_of why) ≡ why
+back : (why : Refusal) → refusal_at (refusal_number why) ≡ why
 back refusal.Layout = refl
 back refusal.Range = refl
 back refusal.Fields = refl

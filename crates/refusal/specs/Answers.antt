@@ -8,22 +8,22 @@ pub data Answer (A : Type 0) : Type 0 where
   refused : ℕ → Answer A
 
 -- the number of a refusal on the list
-abbrev pub number_of : Refusal → ℕ
-number_of refusal.Layout = 1
-number_of refusal.Range = 2
-number_of refusal.Fields = 3
-number_of refusal.Zone = 4
-number_of refusal.Ticks = 5
-number_of refusal.Window = 6
-number_of refusal.Year = 7
-number_of refusal.Count = 8
-number_of refusal.Nanos = 9
-number_of refusal.Length = 10
-number_of refusal.Rows = 11
-number_of refusal.Carry = 12
-number_of refusal.Column = 13
+abbrev pub refusal_number : Refusal → ℕ
+refusal_number refusal.Layout = 1
+refusal_number refusal.Range = 2
+refusal_number refusal.Fields = 3
+refusal_number refusal.Zone = 4
+refusal_number refusal.Ticks = 5
+refusal_number refusal.Window = 6
+refusal_number refusal.Year = 7
+refusal_number refusal.Count = 8
+refusal_number refusal.Nanos = 9
+refusal_number refusal.Length = 10
+refusal_number refusal.Rows = 11
+refusal_number refusal.Carry = 12
+refusal_number refusal.Column = 13
 
 -- how a call's result is read
 abbrev pub answer_of : {A : Type 0} → Result A Refusal → Answer A
 answer_of (Ok x) = gives x
-answer_of (Err why) = refused (number_of why)
+answer_of (Err why) = refused (refusal_number why)

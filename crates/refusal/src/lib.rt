@@ -3,7 +3,7 @@
 #![tactic(auto)]
 
 ghost use Rattle.std.specs.Prelude.{◌≡◌};
-ghost use Rattle.refusal.specs.Answers.{number_of};
+ghost use Rattle.refusal.specs.Answers.{refusal_number};
 
 #[derive(Clone, Copy, Debug, PartialEq, Eq)]
 pub enum Refusal {
@@ -38,7 +38,7 @@ pub enum Refusal {
 impl Refusal {
     // Its number on the list.
     pub fn number(self) -> u32
-        ensures { result ≡ number_of self }
+        ensures { result ≡ refusal_number self }
     {
         self as u32
     }

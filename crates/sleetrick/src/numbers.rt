@@ -1,6 +1,6 @@
 // The one number that a call answers.
 ghost use Rattle.std.specs.Prelude.{◌≡◌};
-ghost use Rattle.refusal.specs.Answers.{number_of};
+ghost use Rattle.refusal.specs.Answers.{refusal_number};
 ghost use Rattle.sleetrick.specs.Numbers.{tells};
 
 use refusal::Refusal;
@@ -9,7 +9,7 @@ use refusal::Refusal;
 //
 // Kept: a number, since it is the C interface.
 pub fn number_of(why: Refusal) -> u64
-    ensures { result ≡ tells 0 0 (number_of why) }
+    ensures { result ≡ tells 0 0 (refusal_number why) }
 {
     why.number() as u64
 }

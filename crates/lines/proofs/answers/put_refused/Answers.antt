@@ -5,7 +5,7 @@ use mathlib.Core.Path.{ap, ◌∙◌}
 use mir.Facts.{to_z_pos}
 use mir.Val.{to_z}
 use mir.Syntax.{w64}
-use Rattle.refusal.specs.Answers.{number_of}
+use Rattle.refusal.specs.Answers.{refusal_number}
 use Rattle.decimal.specs.Write.{show_int}
 use Rattle.lines.specs.Answers.{refused_text}
 use Rattle.lines.proofs.Texts.{puts_then, length_refused}
@@ -14,7 +14,7 @@ use Rattle.lines.proofs.answers.put_refused.Goals as goal
 pub returns : goal.returns
 unfolding refused_text
 returns c =
-    let n = number_of c.args.why in
+    let n = refusal_number c.args.why in
     let e = ap (to_z w64) c.number.ensures ∙ to_z_pos w64 {n = n} (omega (arith, c.number.type_inv, c.number.ensures)) in
     let word = c.put-to.ensures in
     let number = c.put_number.ensures in
