@@ -27,7 +27,9 @@ fn cp56_time(stamp: &[u8; 7]) -> Civil
     }
 }
 
-// Its seconds, by six numbers, which go in registers.
+// Its seconds.
+//
+// Kept: by six numbers, for each stamp: so the calendar stands in line in each (docs/DECISIONS.md).
 fn cp56_seconds(stamp: &[u8; 7]) -> Result<i64, Refusal>
     ensures { answer_of result ≡ seconds_for (cp56_fields stamp.now) }
 {

@@ -29,7 +29,9 @@ fn udf_time(stamp: &[u8; 12]) -> Civil
     }
 }
 
-// Its seconds, by six numbers, which go in registers.
+// Its seconds.
+//
+// Kept: by six numbers, for each stamp: so the calendar stands in line in each (docs/DECISIONS.md).
 fn udf_seconds(stamp: &[u8; 12]) -> Result<i64, Refusal>
     ensures { answer_of result ≡ seconds_for (udf_fields stamp.now) }
 {
@@ -70,7 +72,7 @@ fn moved(local: i64, carry: u64, zone: i64) -> i64
     local + carry as i64 - zone * 60
 }
 
-#[tactic(auto, using(day_time::proofs::Answers::small_seconds), unfolding(crate::specs::UdfStamp::udf_stamp))]
+#[tactic(auto, unfolding(crate::specs::UdfStamp::udf_stamp))]
 pub fn udf(stamp: &[u8]) -> Result<Instant, Refusal>
     ensures { answer_of result ≡ udf_stamp stamp.now }
 {
